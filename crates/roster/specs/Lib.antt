@@ -1,0 +1,5 @@
+pub mod Limits
+pub mod Refusals
+pub mod Replies
+pub mod Meaning
+pub mod Laws

@@ -1,0 +1,63 @@
+-- 01, "What comes back": what is refused, by which number, and in which order. Nothing here is proved: these are definitions.
+use mathlib.Core.Bool.{Bool, true, false}
+use Prim.Native.Nat.{ℕ, _^_}
+use lib.Dec.{eqb, leb, ltb}
+use Rattle.roster.specs.declared.Refusal.{Refusal}
+use Rattle.roster.specs.declared.Refusal.the-variants.{Rows, Task, Away, Crews, Size, Absence}
+use Rattle.roster.specs.declared.Ruling.{Ruling}
+use Rattle.roster.specs.declared.Ruling.the-variants.{Admitted, Refused}
+use Rattle.roster.specs.declared.Policy.{Policy}
+use Rattle.roster.specs.declared.Made.{Made}
+use Rattle.roster.specs.declared.Made.the-variants as made
+use Rattle.roster.specs.Limits.{rowLimit, awayLimit, crewLimit, sizeLimit}
+
+-- "**1** more than 64 rows; **2** P is zero; **3** s above 64; **4** d outside 1 to 8; **5** t outside 1 to 64; **6** a named absence has a
+-- bit at or past the row count"
+abbrev pub numberOf : Refusal → ℕ
+numberOf Rows = 1
+numberOf Task = 2
+numberOf Away = 3
+numberOf Crews = 4
+numberOf Size = 5
+numberOf Absence = 6
+
+-- "Refused, first that applies": this refusal if its fault is there, and else the rest
+abbrev pub refusedIf : Bool → Refusal → Ruling → Ruling
+refusedIf true refusal rest = Refused refusal
+refusedIf false refusal rest = rest
+
+-- x is not one of 1 to most
+abbrev pub outside : ℕ → ℕ → Bool
+outside most x = elim (eqb x 0) [ true ↦ true | false ↦ ltb most x ]
+
+-- 4 and 5, which both questions end with
+unfoldable pub crewRuling : ℕ → ℕ → Ruling → Ruling
+crewRuling d t rest =
+    refusedIf (outside crewLimit d) Crews
+    (refusedIf (outside sizeLimit t) Size rest)
+
+-- the policy question: 1, 2, 3, 4, 5
+unfoldable pub policyRuling : ℕ → ℕ → ℕ → ℕ → ℕ → Ruling
+unfolding crewRuling
+policyRuling rows P s d t =
+    refusedIf (ltb rowLimit rows) Rows
+    (refusedIf (eqb P 0) Task
+    (refusedIf (ltb awayLimit s) Away
+    (crewRuling d t Admitted)))
+
+-- the named absence: 1, 2, 4, 5, 6. A has a bit at or past the row count exactly if it is no number below 2 ^ rows.
+unfoldable pub namedRuling : ℕ → ℕ → ℕ → ℕ → ℕ → Ruling
+unfolding crewRuling
+namedRuling rows P d t A =
+    refusedIf (ltb rowLimit rows) Rows
+    (refusedIf (eqb P 0) Task
+    (crewRuling d t
+    (refusedIf (leb (2 ^ rows) A) Absence Admitted)))
+
+-- the checked constructor knows no table: 2, 3, 4, 5
+abbrev pub madeBy : Ruling → Policy → Made
+madeBy Admitted policy = made.Policy policy
+madeBy (Refused refusal) policy = made.Refused refusal
+
+abbrev pub madeOf : ℕ → ℕ → ℕ → ℕ → Made
+madeOf P s d t = madeBy (policyRuling 0 P s d t) (record { task = P; away = s; crews = d; size = t })

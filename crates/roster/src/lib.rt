@@ -1,0 +1,159 @@
+// The values that every question is asked with and answered by: the table of who holds what, the policy with its limits, the refusals
+// and the reply. What they mean stands in specs/: Meaning is the law that a "yes" or a "no" is held to, and it knows nothing of a search.
+ghost use mathlib.Core.Path.{_≡_};
+ghost use Prim.Native.Nat.{_^_};
+ghost use lib.Dec.{leb};
+ghost use Rattle.roster.specs.Limits.{rowLimit, awayLimit, crewLimit, sizeLimit};
+ghost use Rattle.roster.specs.Refusals.{numberOf, crewRuling, policyRuling, namedRuling, madeOf};
+
+// Who holds what: bit i of a row's holdings is permission i. Holdings past the row count play no part.
+pub struct Table {
+    pub holdings: [u32; Policy::ROWS],
+    pub rows: usize,
+}
+
+// Any `away` people absent, still `crews` separate crews of at most `size`, each holding every permission of `task`.
+pub struct Policy {
+    pub task: u32,
+    pub away: u32,
+    pub crews: usize,
+    pub size: u32,
+}
+
+// Why a question is refused. `number` gives the number that is published for each.
+pub enum Refusal {
+    Rows,
+    Task,
+    Away,
+    Crews,
+    Size,
+    Absence,
+}
+
+// What looking over a question's numbers finds: nothing amiss, or the first fault in the fixed order.
+pub enum Ruling {
+    Admitted,
+    Refused(Refusal),
+}
+
+// What the checked constructor of a policy answers.
+pub enum Made {
+    Policy(Policy),
+    Refused(Refusal),
+}
+
+// What a question is answered with. `Crews` and `None` answer a named absence, `Yes` and `No` a policy.
+pub enum Verdict {
+    Yes,
+    No,
+    Undecided,
+    Crews,
+    None,
+    Refused(Refusal),
+}
+
+// The whole reply: specs/Replies sets out which values go with each verdict.
+pub struct Reply {
+    pub verdict: Verdict,
+    pub crews: [u64; Policy::CREWS],
+    pub blocker: u64,
+    pub units: u32,
+}
+
+impl Policy {
+    // Rows of a table at most.
+    pub const ROWS: usize = 64;
+    // People away at most.
+    pub const AWAY: u32 = 64;
+    // Crews asked for at most.
+    pub const CREWS: usize = 8;
+    // Members of a crew at most; as many as there are rows, so no limit at all.
+    pub const SIZE: u32 = 64;
+
+    // The policy, or the first of its own faults.
+    pub fn new(task: u32, away: u32, crews: usize, size: u32) -> Made
+        ensures made { λ r. ⌜ r ≡ madeOf task away crews size ⌝ }
+        ensures limits { λ r. do ⌜ ((← ⟦Policy::ROWS⟧ .entry) ≡ rowLimit) × ((← ⟦Policy::AWAY⟧ .entry) ≡ awayLimit) × ((← ⟦Policy::CREWS⟧ .entry) ≡ crewLimit) × ((← ⟦Policy::SIZE⟧ .entry) ≡ sizeLimit) ⌝ }
+    {
+        match policy_ruling(0, task, away, crews, size) {
+            Ruling::Admitted => Made::Policy(Policy {
+                task: task,
+                away: away,
+                crews: crews,
+                size: size,
+            }),
+            Ruling::Refused(refusal) => Made::Refused(refusal),
+        }
+    }
+}
+
+impl Refusal {
+    // The published number.
+    pub fn number(self) -> u32
+        ensures { λ r. ⌜ r ≡ numberOf self ⌝ }
+    {
+        match self {
+            Refusal::Rows => 1,
+            Refusal::Task => 2,
+            Refusal::Away => 3,
+            Refusal::Crews => 4,
+            Refusal::Size => 5,
+            Refusal::Absence => 6,
+        }
+    }
+}
+
+// The first fault of a policy question's numbers.
+pub fn policy_ruling(rows: usize, task: u32, away: u32, crews: usize, size: u32) -> Ruling
+    ensures { λ r. ⌜ r ≡ policyRuling rows task away crews size ⌝ }
+{
+    if rows > Policy::ROWS {
+        return Ruling::Refused(Refusal::Rows);
+    }
+    if task == 0 {
+        return Ruling::Refused(Refusal::Task);
+    }
+    if away > Policy::AWAY {
+        return Ruling::Refused(Refusal::Away);
+    }
+    crew_ruling(crews, size)
+}
+
+// Faults 4 and 5, which every question looks for one after the other.
+fn crew_ruling(crews: usize, size: u32) -> Ruling
+    ensures { λ r. ⌜ r ≡ crewRuling crews size Ruling.Admitted ⌝ }
+{
+    if crews < 1 || crews > Policy::CREWS {
+        return Ruling::Refused(Refusal::Crews);
+    }
+    if size < 1 || size > Policy::SIZE {
+        return Ruling::Refused(Refusal::Size);
+    }
+    Ruling::Admitted
+}
+
+// Whether the set has a bit at or past the row count. A shift by 64 is no operation, and no set has a bit there.
+fn past_rows(rows: usize, set: u64) -> bool
+    ensures { λ r. ⌜ r ≡ leb (2 ^ rows) set ⌝ }
+{
+    if rows >= Policy::ROWS {
+        return false;
+    }
+    set >> rows != 0
+}
+
+// The first fault of a named-absence question's numbers.
+pub fn named_ruling(rows: usize, task: u32, crews: usize, size: u32, absent: u64) -> Ruling
+    ensures { λ r. ⌜ r ≡ namedRuling rows task crews size absent ⌝ }
+{
+    match policy_ruling(rows, task, 0, crews, size) {
+        Ruling::Refused(refusal) => Ruling::Refused(refusal),
+        Ruling::Admitted => {
+            if past_rows(rows, absent) {
+                Ruling::Refused(Refusal::Absence)
+            } else {
+                Ruling::Admitted
+            }
+        }
+    }
+}
