@@ -1,0 +1,146 @@
+-- 01, "Filling crews": the search as it is told there, without an allowance: whether it ends with a crew list, the list, and how many
+-- placements it made. Nothing here is proved: these are definitions, and they run.
+use mathlib.Core.Bool.{Bool, true, false}
+use mathlib.Core.List.{List, [], _∷_}
+use Prim.Native.Nat.{ℕ, zero, suc, _+_, _-_, _^_}
+use lib.Bits.{bitAnd, bitOr, bitXor}
+use lib.Count.{ones, trailingZeros}
+use lib.Dec.{eqb, leb}
+use lib.ListN.{getD, set}
+use Rattle.sets.specs.Members.{members, filter, setOf, hasb}
+use Rattle.sets.specs.Sets.{minus}
+use Rattle.roster.specs.declared.Table.{Table}
+use Rattle.roster.specs.Limits.{rowLimit}
+use Rattle.roster.specs.Meaning.{held}
+use Rattle.roster.specs.Replies.{noCrews}
+use Rattle.crews.specs.declared.Filling.{Filling}
+
+-- What the crews are filled from and for: each row's holdings, for each permission the rows that hold it, the task P, d and t. The last
+-- two are what later editions of the rule change: which rows may begin a crew, and whether a crew that covers may close.
+pub record Work : Type 0 where
+  pub holds : ℕ → ℕ
+  pub holders : ℕ → ℕ
+  pub task : ℕ
+  pub crews : ℕ
+  pub size : ℕ
+  pub begins : Filling → ℕ → Bool
+  pub closes : Filling → Bool
+
+-- What the search comes to.
+pub record Outcome : Type 0 where
+  pub found : Bool
+  pub crews : List ℕ
+  pub need : ℕ
+
+abbrev pub nothing : Outcome
+nothing = record { found = false; crews = noCrews; need = 0 }
+
+abbrev pub complete : List ℕ → Outcome
+complete crews = record { found = true; crews = crews; need = 0 }
+
+-- n placements more
+abbrev pub after : ℕ → Outcome → Outcome
+after n o = record { found = o .found; crews = o .crews; need = n + o .need }
+
+-- the crew that is being filled
+abbrev pub crewOf : Filling → ℕ
+crewOf f = getD (f .crews) (f .closed) 0
+
+-- the permissions of P not yet held there
+abbrev pub missingOf : ℕ → Filling → ℕ
+missingOf task f = bitXor task (bitAnd task (f .held))
+
+-- "The half-filled crews are one value, and each placement hands a new one back."
+unfoldable pub placeOf : Filling → ℕ → ℕ → Filling
+placeOf f row h =
+    record {
+      crews = set (f .crews) (f .closed) (bitOr (crewOf f) (2 ^ row));
+      closed = f .closed;
+      free = bitXor (f .free) (2 ^ row);
+      held = bitOr (f .held) h;
+    }
+
+unfoldable pub closeOf : Filling → Filling
+closeOf f = record { crews = f .crews; closed = f .closed + 1; free = f .free; held = 0 }
+
+-- "A crew that covers P is closed and the next begun."
+unfoldable pub placedOf : Work → Filling → ℕ → Filling
+placedOf w f row =
+    let g = placeOf f row (w .holds row) in
+    elim (eqb (missingOf (w .task) g) 0) [
+      | true ↦ elim (w .closes g) [ true ↦ closeOf g | false ↦ g ]
+      | false ↦ g
+    ]
+
+-- "take the lowest permission of P not yet held there. The candidates are the rows in ascending order that hold it, are not absent and are
+-- in no crew."
+unfoldable pub candidates : Work → Filling → List ℕ
+candidates w f =
+    let all = members 0 rowLimit (bitAnd (w .holders (trailingZeros 32 (missingOf (w .task) f))) (f .free)) in
+    elim (eqb (crewOf f) 0) [ true ↦ filter (w .begins f) all | false ↦ all ]
+
+-- Each candidate in turn, by `deeper`, up to the first that leads to a complete list. "Every placement, also one that fills a crew without
+-- covering, is one unit."
+unfoldable pub tryEach : (Filling → Outcome) → Work → Filling → List ℕ → Outcome
+tryEach deeper w f [] = nothing
+tryEach deeper w f (row ∷ rest) =
+    let here = deeper (placedOf w f row) in
+    elim (here .found) [
+      | true ↦ after 1 here
+      | false ↦ after (1 + here .need) (tryEach deeper w f rest)
+    ]
+
+-- "The search goes one placement deeper at a time and takes it back when nothing further fits." A candidate is tried "only while the crew
+-- has fewer than t rows". The first number is how many more placements there can be: as many as there are free rows.
+unfoldable pub search : ℕ → Work → Filling → Outcome
+search zero w f = elim (eqb (f .closed) (w .crews)) [ true ↦ complete (f .crews) | false ↦ nothing ]
+search (suc n) w f =
+    elim (eqb (f .closed) (w .crews)) [
+      | true ↦ complete (f .crews)
+      | false ↦
+          elim (leb (w .size) (ones (crewOf f))) [
+            | true ↦ nothing
+            | false ↦ tryEach (λ g. search n w g) w f (candidates w f)
+          ]
+    ]
+
+-- nothing is placed, and these rows are free
+abbrev pub begin : ℕ → Filling
+begin free = record { crews = noCrews; closed = 0; free = free; held = 0 }
+
+-- the whole search from these free rows
+abbrev pub searchFrom : Work → ℕ → Outcome
+searchFrom w free = search (ones free) w (begin free)
+
+-- ---- the rule of 01, over a table
+
+-- a row's holdings within P; a row past the count holds nothing
+abbrev pub holdsOf : Table → ℕ → ℕ → ℕ
+holdsOf table P u = elim (leb (table .rows) u) [ true ↦ 0 | false ↦ held table P u ]
+
+-- the rows that hold permission p
+abbrev pub holdersOf : (ℕ → ℕ) → ℕ → ℕ
+holdersOf holds p = setOf rowLimit (λ u. hasb (holds u) p)
+
+-- any row may begin a crew, and a crew that covers closes
+abbrev pub plainly : (ℕ → ℕ) → (ℕ → ℕ) → ℕ → ℕ → ℕ → Work
+plainly holds holders P d t = record {
+  holds = holds;
+  holders = holders;
+  task = P;
+  crews = d;
+  size = t;
+  begins = λ f u. true;
+  closes = λ f. true;
+}
+
+abbrev pub workOf : Table → ℕ → ℕ → ℕ → Work
+workOf table P d t = plainly (holdsOf table P) (holdersOf (holdsOf table P)) P d t
+
+-- the rows that are not absent
+abbrev pub present : Table → ℕ → ℕ
+present table A = minus rowLimit (2 ^ table .rows - 1) A
+
+-- what filling the crews comes to with A absent
+abbrev pub filling : Table → ℕ → ℕ → ℕ → ℕ → Outcome
+filling table P d t A = searchFrom (workOf table P d t) (present table A)
