@@ -1,5 +1,5 @@
 -- 01, "What comes back": what is refused, by which number, and in which order. Nothing here is proved: these are definitions.
-use mathlib.Core.Bool.{Bool, true, false}
+use mathlib.Core.Bool.{Bool, true, false, _||_}
 use Prim.Native.Nat.{ℕ, _^_}
 use lib.Dec.{eqb, leb, ltb}
 use Rattle.roster.specs.declared.Refusal.{Refusal}
@@ -28,31 +28,27 @@ refusedIf false refusal rest = rest
 
 -- x is not one of 1 to most
 abbrev pub outside : ℕ → ℕ → Bool
-outside most x = elim (eqb x 0) [ true ↦ true | false ↦ ltb most x ]
-
--- 4 and 5, which both questions end with
-unfoldable pub crewRuling : ℕ → ℕ → Ruling → Ruling
-crewRuling d t rest =
-    refusedIf (outside crewLimit d) Crews
-    (refusedIf (outside sizeLimit t) Size rest)
+outside most x = eqb x 0 || ltb most x
 
 -- the policy question: 1, 2, 3, 4, 5
 unfoldable pub policyRuling : ℕ → ℕ → ℕ → ℕ → ℕ → Ruling
-unfolding crewRuling
 policyRuling rows P s d t =
     refusedIf (ltb rowLimit rows) Rows
     (refusedIf (eqb P 0) Task
     (refusedIf (ltb awayLimit s) Away
-    (crewRuling d t Admitted)))
+    (refusedIf (outside crewLimit d) Crews
+    (refusedIf (outside sizeLimit t) Size
+    Admitted))))
 
--- the named absence: 1, 2, 4, 5, 6. A has a bit at or past the row count exactly if it is no number below 2 ^ rows.
+-- the named absence: 1, 2, 4, 5, 6. A has a bit at or past the row count exactly if it is no number below 2 ^ rows (`past-rows-iff`).
 unfoldable pub namedRuling : ℕ → ℕ → ℕ → ℕ → ℕ → Ruling
-unfolding crewRuling
 namedRuling rows P d t A =
     refusedIf (ltb rowLimit rows) Rows
     (refusedIf (eqb P 0) Task
-    (crewRuling d t
-    (refusedIf (leb (2 ^ rows) A) Absence Admitted)))
+    (refusedIf (outside crewLimit d) Crews
+    (refusedIf (outside sizeLimit t) Size
+    (refusedIf (leb (2 ^ rows) A) Absence
+    Admitted))))
 
 -- the checked constructor knows no table: 2, 3, 4, 5
 abbrev pub madeBy : Ruling → Policy → Made

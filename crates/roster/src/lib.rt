@@ -4,7 +4,7 @@ ghost use mathlib.Core.Path.{_≡_};
 ghost use Prim.Native.Nat.{_^_};
 ghost use lib.Dec.{leb};
 ghost use Rattle.roster.specs.Limits.{rowLimit, awayLimit, crewLimit, sizeLimit};
-ghost use Rattle.roster.specs.Refusals.{numberOf, crewRuling, policyRuling, namedRuling, madeOf};
+ghost use Rattle.roster.specs.Refusals.{numberOf, policyRuling, namedRuling, madeOf};
 
 // Who holds what: bit i of a row's holdings is permission i. Holdings past the row count play no part.
 pub struct Table {
@@ -116,17 +116,16 @@ pub fn policy_ruling(rows: usize, task: u32, away: u32, crews: usize, size: u32)
     if away > Policy::AWAY {
         return Ruling::Refused(Refusal::Away);
     }
-    crew_ruling(crews, size)
-}
-
-// Faults 4 and 5, which every question looks for one after the other.
-fn crew_ruling(crews: usize, size: u32) -> Ruling
-    ensures { λ r. ⌜ r ≡ crewRuling crews size Ruling.Admitted ⌝ }
-{
-    if crews < 1 || crews > Policy::CREWS {
+    if crews == 0 {
         return Ruling::Refused(Refusal::Crews);
     }
-    if size < 1 || size > Policy::SIZE {
+    if crews > Policy::CREWS {
+        return Ruling::Refused(Refusal::Crews);
+    }
+    if size == 0 {
+        return Ruling::Refused(Refusal::Size);
+    }
+    if size > Policy::SIZE {
         return Ruling::Refused(Refusal::Size);
     }
     Ruling::Admitted
