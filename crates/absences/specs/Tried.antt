@@ -1,0 +1,75 @@
+-- 01, "Order of absences" and "Units": the absences that each search tries, in order, and what trying them costs. Nothing here is proved:
+-- these are definitions, and they run. That the lists are the right ones is shown in Laws.
+use mathlib.Core.Bool.{Bool, true, false, _&&_, _||_, not}
+use mathlib.Core.List.{List, [], _∷_, _++_}
+use Prim.Native.Nat.{ℕ, zero, suc, _+_, _^_, min}
+use lib.Bits.{bitAnd}
+use lib.Dec.{eqb, leb, ltb}
+use Rattle.sets.specs.Members.{hasb, setOf}
+use Rattle.sets.specs.Sets.{with}
+use Rattle.roster.specs.declared.Table.{Table}
+use Rattle.roster.specs.Meaning.{held, rank}
+use Rattle.crews.specs.Filling.{Outcome, filling}
+
+-- the first of the n rows from u on that has rank r
+unfoldable pub rowFrom : Table → ℕ → ℕ → ℕ → ℕ → ℕ
+rowFrom table P r zero u = u
+rowFrom table P r (suc n) u = elim (eqb (rank table P u) r) [ true ↦ u | false ↦ rowFrom table P r n (suc u) ]
+
+-- the row of rank r
+abbrev pub rowAt : Table → ℕ → ℕ → ℕ
+rowAt table P r = rowFrom table P r (table .rows) 0
+
+-- u outweighs v, as a test
+unfoldable pub outweighsb : Table → ℕ → ℕ → ℕ → Bool
+outweighsb table P u v =
+    eqb (bitAnd (held table P v) (held table P u)) (held table P v)
+    && (not (eqb (held table P u) (held table P v)) || ltb u v)
+
+-- Which rows may be added to an absence: any, or only those whose outweighing rows are all in it already.
+pub data Way : Type 0 where
+  full : Way
+  skipping : Way
+
+unfoldable pub joins : Way → Table → ℕ → ℕ → ℕ → Bool
+joins full table P F v = true
+joins skipping table P F v =
+    eqb (bitAnd (setOf (table .rows) (λ u. outweighsb table P u v)) F) (setOf (table .rows) (λ u. outweighsb table P u v))
+
+-- F with k more of the m rows from rank r on, those with the lower rank first
+unfoldable pub listed : Way → Table → ℕ → ℕ → ℕ → ℕ → ℕ → List ℕ
+listed way table P m zero r F = F ∷ []
+listed way table P zero (suc k) r F = []
+listed way table P (suc m) (suc k) r F =
+    elim (joins way table P F (rowAt table P r)) [
+      | true ↦ listed way table P m k (suc r) (with F (rowAt table P r))
+      | false ↦ []
+    ]
+    ++ listed way table P m (suc k) (suc r) F
+
+-- those of size k, then those of the n sizes that follow
+unfoldable pub sizesFrom : Way → Table → ℕ → ℕ → ℕ → List ℕ
+sizesFrom way table P zero k = listed way table P (table .rows) k 0 0
+sizesFrom way table P (suc n) k = listed way table P (table .rows) k 0 0 ++ sizesFrom way table P n (suc k)
+
+-- "By size, from 0 to the smaller of s and the row count"
+abbrev pub tried : Way → Table → ℕ → ℕ → List ℕ
+tried way table P s = sizesFrom way table P (min s (table .rows)) 0
+
+-- What trying absences one after the other comes to: whether one blocks, which, and the units.
+pub record Found : Type 0 where
+  pub blocked : Bool
+  pub blocker : ℕ
+  pub need : ℕ
+
+-- "An absence tried costs one unit plus its placements. The need of a policy question is the sum over the absences tried, up to and
+-- including the first that blocks, or all if none does."
+unfoldable pub weighed : Table → ℕ → ℕ → ℕ → List ℕ → Found
+weighed table P d t [] = record { blocked = false; blocker = 0; need = 0 }
+weighed table P d t (A ∷ rest) =
+    elim (filling table P d t A .found) [
+      | true ↦
+          (let more = weighed table P d t rest in
+          record { blocked = more .blocked; blocker = more .blocker; need = 1 + filling table P d t A .need + more .need })
+      | false ↦ record { blocked = true; blocker = A; need = 1 + filling table P d t A .need }
+    ]
