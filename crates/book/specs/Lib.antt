@@ -1,0 +1,5 @@
+pub mod Layout
+pub mod Faults
+pub mod Reading
+pub mod Parts
+pub mod Cases
