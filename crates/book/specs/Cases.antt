@@ -8,7 +8,6 @@ use Rattle.book.specs.Layout.{Row, Contents, bytesOf, joined, fieldBytes
 use Rattle.book.specs.Reading.{
   number,
   fieldsAt,
-  total,
   countLook,
   entryLook,
   inTurn,
@@ -18,7 +17,7 @@ use Rattle.book.specs.Reading.{
   readOf,
 }
 use Rattle.book.specs.declared.Fault.the-variants as fault
-use Rattle.book.specs.declared.Read.the-variants as read
+use Rattle.book.specs.declared.Reading.the-variants as read
 
 -- "codes 10, 20; staff 101, 102, 103, 104 with holdings 3, 1, 2, 3; policies (3; 1,2,2), (3; 2,2,2), (3; 0,3,1)"
 abbrev pub valuesB : Contents
@@ -54,15 +53,15 @@ pub b-long : length bookB ≡ 60
 b-long = refl
 
 pub b-good : readOf bookB ≡ read.Good (record { permissions = 0; rows = 5; policies = 38 })
-unfolding number fieldsAt total countLook entryLook inTurn sectionLooks past firstFault readOf policyRuling
+unfolding number fieldsAt countLook entryLook inTurn sectionLooks past firstFault readOf policyRuling
 b-good = refl
 
 -- "B with one byte added prints `bad 19 60`"
 pub b-and-more : readOf (bookB ++ (0 ∷ [])) ≡ read.Refused fault.Excess 60
-unfolding number fieldsAt total countLook entryLook inTurn sectionLooks past firstFault readOf policyRuling
+unfolding number fieldsAt countLook entryLook inTurn sectionLooks past firstFault readOf policyRuling
 b-and-more = refl
 
 -- "no input prints `bad 11 0`"
 pub empty : readOf [] ≡ read.Refused fault.Short 0
-unfolding number fieldsAt total countLook entryLook inTurn sectionLooks past firstFault readOf policyRuling
+unfolding number fieldsAt countLook entryLook inTurn sectionLooks past firstFault readOf policyRuling
 empty = refl

@@ -24,8 +24,8 @@ use Rattle.book.specs.Reading.{
   past,
   readOf,
 }
-use Rattle.book.specs.declared.Read.{Read}
-use Rattle.book.specs.declared.Read.the-variants.{Good, Refused}
+use Rattle.book.specs.declared.Reading.{Reading}
+use Rattle.book.specs.declared.Reading.the-variants.{Good, Refused}
 use Rattle.book.specs.declared.Starts.{Starts}
 use Rattle.book.specs.declared.Place.{Place}
 use Rattle.book.specs.declared.Place.the-variants as place
@@ -58,7 +58,7 @@ contentsOf book = record {
 -- ---- its parts by place
 
 -- where the sections are taken to start, of a refused book too
-abbrev pub startsBy : List ℕ → Read → Starts
+abbrev pub startsBy : List ℕ → Reading → Starts
 startsBy book (Good starts) = starts
 startsBy book (Refused fault at) = record { permissions = length book; rows = length book; policies = length book }
 

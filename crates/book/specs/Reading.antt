@@ -9,9 +9,9 @@ use Prim.Native.Nat.{ℕ, zero, suc, _+_, _*_, _^_}
 use lib.Dec.{leb, ltb}
 use lib.ListN.{length, getD}
 use Rattle.roster.specs.Limits.{rowLimit}
-use Rattle.roster.specs.Refusals.{outside, policyRuling}
-use Rattle.roster.specs.declared.Ruling.{Ruling}
-use Rattle.roster.specs.declared.Ruling.the-variants as ruling
+use Rattle.roster.specs.Refusals.{outside, madeOf}
+use Rattle.roster.specs.declared.Made.{Made}
+use Rattle.roster.specs.declared.Made.the-variants as made
 use Rattle.roster.specs.declared.Policy.{Policy}
 use Rattle.book.specs.Layout.{
   Row,
@@ -29,8 +29,8 @@ use Rattle.book.specs.declared.Look.{Look}
 use Rattle.book.specs.declared.Look.the-variants.{Sound, Faulty}
 use Rattle.book.specs.declared.Before.{Before}
 use Rattle.book.specs.declared.Before.the-variants.{Nothing, Entry}
-use Rattle.book.specs.declared.Read.{Read}
-use Rattle.book.specs.declared.Read.the-variants as read
+use Rattle.book.specs.declared.Reading.{Reading}
+use Rattle.book.specs.declared.Reading.the-variants as read
 use Rattle.book.specs.declared.Starts.{Starts}
 
 -- ---- what stands at a place
@@ -46,7 +46,7 @@ fieldsAt [] book at = []
 fieldsAt (w ∷ ws) book at = number w book at ∷ fieldsAt ws book (at + w)
 
 -- the width of an entry of these fields
-unfoldable pub total : List ℕ → ℕ
+abbrev pub total : List ℕ → ℕ
 total [] = 0
 total (w ∷ ws) = w + total ws
 
@@ -102,9 +102,9 @@ rows = record {
       Sound);
 }
 
-abbrev pub byRuling : Ruling → Look
-byRuling ruling.Admitted = Sound
-byRuling (ruling.Refused refusal) = Faulty (fault.Policy refusal)
+abbrev pub byMade : Made → Look
+byMade (made.Policy p) = Sound
+byMade (made.Refused refusal) = Faulty (fault.Policy refusal)
 
 -- "**17** policies above 32"; "for a policy **18** P past the listed permissions, then 2, 3, 4, 5 as above"
 abbrev pub policies : Kind Policy
@@ -115,7 +115,7 @@ policies = record {
   countFault = fault.Policies;
   faults = λ listed before p.
       faultIf (pastListed listed (p .task)) fault.Task
-      (byRuling (policyRuling 0 (p .task) (p .away) (p .crews) (p .size)));
+      (byMade (madeOf (p .task) (p .away) (p .crews) (p .size)));
 }
 
 -- ---- a section
@@ -200,5 +200,5 @@ abbrev pub startsOf : List ℕ → Starts
 startsOf book = record { permissions = 0; rows = past codes book 0; policies = past rows book (past codes book 0) }
 
 -- the reply to these bytes
-unfoldable pub readOf : List ℕ → Read
+unfoldable pub readOf : List ℕ → Reading
 readOf book = firstFault read.Refused (read.Good (startsOf book)) (looks book)
