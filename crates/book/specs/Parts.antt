@@ -65,13 +65,13 @@ startsBy book (Refused fault at) = record { permissions = length book; rows = le
 unfoldable pub startsIn : List ℕ → Starts
 startsIn book = startsBy book (readOf book)
 
--- where the i-th entry of the section stands that starts here, if it has one
-unfoldable pub placeOf : {A : Type 0} → Kind A → List ℕ → ℕ → ℕ → Place
-placeOf kind book start i =
-    let at = start + 1 + width kind * i in
-    elim (ltb i (countAt book start)) [
-      | true ↦ elim (leb (at + width kind) (length book)) [ true ↦ place.At at | false ↦ place.Nothing ]
-      | false ↦ place.Nothing
+-- where the i-th entry of this width stands in the section that starts here, if it has one
+unfoldable pub placeOf : ℕ → List ℕ → ℕ → ℕ → Place
+placeOf wide book start i =
+    let at = start + 1 + wide * i in
+    elim (leb (countAt book start) i) [
+      | true ↦ place.Nothing
+      | false ↦ elim (ltb (length book) (at + wide)) [ true ↦ place.Nothing | false ↦ place.At at ]
     ]
 
 -- "a view over it answers staff number and holdings by row; past the last row it answers "no such row""
@@ -80,14 +80,14 @@ staffFrom book (place.At at) = staff.Number (entryAt rows book at .staff)
 staffFrom book place.Nothing = staff.NoSuchRow
 
 abbrev pub staffAt : List ℕ → ℕ → ℕ → Staff
-staffAt book start row = staffFrom book (placeOf rows book start row)
+staffAt book start row = staffFrom book (placeOf (width rows) book start row)
 
 abbrev pub holdingsFrom : List ℕ → Place → Holdings
 holdingsFrom book (place.At at) = holdings.Held (entryAt rows book at .holdings)
 holdingsFrom book place.Nothing = holdings.NoSuchRow
 
 abbrev pub holdingsAt : List ℕ → ℕ → ℕ → Holdings
-holdingsAt book start row = holdingsFrom book (placeOf rows book start row)
+holdingsAt book start row = holdingsFrom book (placeOf (width rows) book start row)
 
 -- ---- the table and the policies
 
@@ -121,5 +121,9 @@ policyFrom book (place.At at) =
     listedBy (madeOf (p .task) (p .away) (p .crews) (p .size))
 policyFrom book place.Nothing = listed.NoSuchPolicy
 
+-- the i-th policy of the section that starts here
+abbrev pub policyIn : List ℕ → ℕ → ℕ → Listed
+policyIn book start i = policyFrom book (placeOf (width policies) book start i)
+
 unfoldable pub policyAt : List ℕ → ℕ → Listed
-policyAt book i = policyFrom book (placeOf policies book (startsIn book .policies) i)
+policyAt book i = policyIn book (startsIn book .policies) i

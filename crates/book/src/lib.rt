@@ -11,6 +11,7 @@ ghost use lib.Dec.{ltb, leb};
 ghost use lib.ListN.{length, getD};
 ghost use Rattle.book.specs.Faults.{faultNumber};
 ghost use Rattle.book.specs.Reading.{number, pastListed, codes, rows, policies, countLook, entryLook, readOf};
+ghost use Rattle.book.specs.Parts.{startsIn, placeOf, staffAt, holdingsAt, heldOr0, upFrom, tableOf, policyCount, policyIn, policyAt};
 ghost use Rattle.book.specs.Steps.{widthIn, leadIn, staysIn, outIn, countFaultIn, countIn, madeAt, lookIn, pastEntry, stepFrom, startAt, stepIn, readPolicies, readRows};
 
 // Permissions of a book at most; a row's holdings have a bit for each.
@@ -414,4 +415,120 @@ pub fn read(book: &[u8]) -> Reading
         Step::Refused(fault, place) => Reading::Refused(fault, place),
         Step::Next(rows) => read_rows(book, rows),
     }
+}
+
+// ---- the parts of a book
+
+// Where the sections are taken to start, of a refused book too: at its end, where no count stands, so that it has no parts.
+pub fn starts_in(book: &[u8]) -> Starts
+    ensures { λ r. ⌜ r ≡ startsIn (now (book .entry)) ⌝ }
+{
+    match read(book) {
+        Reading::Good(starts) => starts,
+        Reading::Refused(_, _) => Starts {
+            permissions: book.len(),
+            rows: book.len(),
+            policies: book.len(),
+        },
+    }
+}
+
+// Where the i-th entry of the section stands that starts here.
+fn place_of(book: &[u8], section: Section, start: usize, i: usize) -> Place
+    ensures { λ r. ⌜ r ≡ placeOf (widthIn section) (now (book .entry)) start i ⌝ }
+{
+    if i >= count_at(book, start) {
+        return Place::Nothing;
+    }
+    let wide = width(section);
+    let at = start + 1 + wide * i;
+    if cut(book, at, wide) {
+        return Place::Nothing;
+    }
+    Place::At(at)
+}
+
+// The staff number of a row of the section that starts here.
+pub fn staff_at(book: &[u8], start: usize, row: usize) -> Staff
+    ensures { λ r. ⌜ r ≡ staffAt (now (book .entry)) start row ⌝ }
+{
+    match place_of(book, Section::Rows, start, row) {
+        Place::At(at) => Staff::Number(four(book, at)),
+        Place::Nothing => Staff::NoSuchRow,
+    }
+}
+
+// Its holdings.
+pub fn holdings_at(book: &[u8], start: usize, row: usize) -> Holdings
+    ensures { λ r. ⌜ r ≡ holdingsAt (now (book .entry)) start row ⌝ }
+{
+    match place_of(book, Section::Rows, start, row) {
+        Place::At(at) => Holdings::Held(four(book, at + 4)),
+        Place::Nothing => Holdings::NoSuchRow,
+    }
+}
+
+// A row that is not there holds nothing.
+fn held_at(book: &[u8], start: usize, row: usize) -> u32
+    ensures { λ r. ⌜ r ≡ heldOr0 (holdingsAt (now (book .entry)) start row) ⌝ }
+{
+    match holdings_at(book, start, row) {
+        Holdings::Held(held) => held,
+        Holdings::NoSuchRow => 0,
+    }
+}
+
+// The holdings of all rows.
+fn all_held(book: &[u8], start: usize) -> [u32; Policy::ROWS]
+    ensures { λ r. ⌜ r ≡ upFrom 0 64 (λ row. heldOr0 (holdingsAt (now (book .entry)) start row)) ⌝ }
+{
+    let mut held = [0u32; Policy::ROWS];
+    let mut row = 0;
+    while row < Policy::ROWS {
+        held[row] = held_at(book, start, row);
+        row += 1;
+    }
+    held
+}
+
+// The table of a book; a refused one has no rows.
+pub fn table_of(book: &[u8]) -> Table
+    ensures { λ r. ⌜ r ≡ tableOf (now (book .entry)) ⌝ }
+{
+    let starts = starts_in(book);
+    let rows = count_at(book, starts.rows);
+    let held = all_held(book, starts.rows);
+    Table {
+        holdings: held,
+        rows: rows,
+    }
+}
+
+// How many policies a book has; a refused one has none.
+pub fn policy_count(book: &[u8]) -> usize
+    ensures { λ r. ⌜ r ≡ policyCount (now (book .entry)) ⌝ }
+{
+    let starts = starts_in(book);
+    count_at(book, starts.policies)
+}
+
+// The i-th policy of the section that starts here.
+pub fn policy_in(book: &[u8], start: usize, i: usize) -> Listed
+    ensures { λ r. ⌜ r ≡ policyIn (now (book .entry)) start i ⌝ }
+{
+    match place_of(book, Section::Policies, start, i) {
+        Place::At(at) => match policy_from(book, at) {
+            Made::Policy(policy) => Listed::Policy(policy),
+            Made::Refused(_) => Listed::NoSuchPolicy,
+        },
+        Place::Nothing => Listed::NoSuchPolicy,
+    }
+}
+
+// The i-th policy of a book; a refused one has none.
+pub fn policy_at(book: &[u8], i: usize) -> Listed
+    ensures { λ r. ⌜ r ≡ policyAt (now (book .entry)) i ⌝ }
+{
+    let starts = starts_in(book);
+    policy_in(book, starts.policies, i)
 }
