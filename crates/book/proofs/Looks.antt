@@ -50,6 +50,10 @@ use Rattle.book.specs.declared.Reading.{Reading}
 use Rattle.book.specs.declared.Reading.the-variants as read
 use Rattle.book.specs.declared.Fault.the-variants as fault
 
+-- a reply, and that what was lent is as it was
+pub both : {A : Type 0} {lent : List ℕ} → A → A × (lent ≡ lent)
+both a = (a, refl)
+
 -- a fault that is there, and one that is not: the test's answer and what it means
 pub faulty : {b t : Bool} (f : Fault) (rest : Look) → b ≡ t → b ≡ true → Faulty f ≡ faultIf t f rest
 faulty f rest e taken = sym (ap (λ (x : Bool). faultIf x f rest) (sym e ∙ taken))

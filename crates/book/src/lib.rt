@@ -409,7 +409,8 @@ fn read_rows(book: &[u8], rows: usize) -> Reading
 
 // The reply to a book.
 pub fn read(book: &[u8]) -> Reading
-    ensures { λ r. ⌜ r ≡ readOf (now (book .entry)) ⌝ }
+    ensures reply { λ r. ⌜ r ≡ readOf (now (book .entry)) ⌝ }
+    ensures kept { λ _. ⌜ now (book .exit) ≡ now (book .entry) ⌝ }
 {
     match section_step(book, Section::Permissions, 0, 0) {
         Step::Refused(fault, place) => Reading::Refused(fault, place),
@@ -421,7 +422,8 @@ pub fn read(book: &[u8]) -> Reading
 
 // Where the sections are taken to start, of a refused book too: at its end, where no count stands, so that it has no parts.
 pub fn starts_in(book: &[u8]) -> Starts
-    ensures { λ r. ⌜ r ≡ startsIn (now (book .entry)) ⌝ }
+    ensures reply { λ r. ⌜ r ≡ startsIn (now (book .entry)) ⌝ }
+    ensures kept { λ _. ⌜ now (book .exit) ≡ now (book .entry) ⌝ }
 {
     match read(book) {
         Reading::Good(starts) => starts,
@@ -450,7 +452,8 @@ fn place_of(book: &[u8], section: Section, start: usize, i: usize) -> Place
 
 // The staff number of a row of the section that starts here.
 pub fn staff_at(book: &[u8], start: usize, row: usize) -> Staff
-    ensures { λ r. ⌜ r ≡ staffAt (now (book .entry)) start row ⌝ }
+    ensures reply { λ r. ⌜ r ≡ staffAt (now (book .entry)) start row ⌝ }
+    ensures kept { λ _. ⌜ now (book .exit) ≡ now (book .entry) ⌝ }
 {
     match place_of(book, Section::Rows, start, row) {
         Place::At(at) => Staff::Number(four(book, at)),
@@ -460,7 +463,8 @@ pub fn staff_at(book: &[u8], start: usize, row: usize) -> Staff
 
 // Its holdings.
 pub fn holdings_at(book: &[u8], start: usize, row: usize) -> Holdings
-    ensures { λ r. ⌜ r ≡ holdingsAt (now (book .entry)) start row ⌝ }
+    ensures reply { λ r. ⌜ r ≡ holdingsAt (now (book .entry)) start row ⌝ }
+    ensures kept { λ _. ⌜ now (book .exit) ≡ now (book .entry) ⌝ }
 {
     match place_of(book, Section::Rows, start, row) {
         Place::At(at) => Holdings::Held(four(book, at + 4)),
@@ -493,7 +497,8 @@ fn all_held(book: &[u8], start: usize) -> [u32; Policy::ROWS]
 
 // The table of a book; a refused one has no rows.
 pub fn table_of(book: &[u8]) -> Table
-    ensures { λ r. ⌜ r ≡ tableOf (now (book .entry)) ⌝ }
+    ensures reply { λ r. ⌜ r ≡ tableOf (now (book .entry)) ⌝ }
+    ensures kept { λ _. ⌜ now (book .exit) ≡ now (book .entry) ⌝ }
 {
     let starts = starts_in(book);
     let rows = count_at(book, starts.rows);
@@ -506,7 +511,8 @@ pub fn table_of(book: &[u8]) -> Table
 
 // How many policies a book has; a refused one has none.
 pub fn policy_count(book: &[u8]) -> usize
-    ensures { λ r. ⌜ r ≡ policyCount (now (book .entry)) ⌝ }
+    ensures reply { λ r. ⌜ r ≡ policyCount (now (book .entry)) ⌝ }
+    ensures kept { λ _. ⌜ now (book .exit) ≡ now (book .entry) ⌝ }
 {
     let starts = starts_in(book);
     count_at(book, starts.policies)
@@ -514,7 +520,8 @@ pub fn policy_count(book: &[u8]) -> usize
 
 // The i-th policy of the section that starts here.
 pub fn policy_in(book: &[u8], start: usize, i: usize) -> Listed
-    ensures { λ r. ⌜ r ≡ policyIn (now (book .entry)) start i ⌝ }
+    ensures reply { λ r. ⌜ r ≡ policyIn (now (book .entry)) start i ⌝ }
+    ensures kept { λ _. ⌜ now (book .exit) ≡ now (book .entry) ⌝ }
 {
     match place_of(book, Section::Policies, start, i) {
         Place::At(at) => match policy_from(book, at) {
@@ -527,7 +534,8 @@ pub fn policy_in(book: &[u8], start: usize, i: usize) -> Listed
 
 // The i-th policy of a book; a refused one has none.
 pub fn policy_at(book: &[u8], i: usize) -> Listed
-    ensures { λ r. ⌜ r ≡ policyAt (now (book .entry)) i ⌝ }
+    ensures reply { λ r. ⌜ r ≡ policyAt (now (book .entry)) i ⌝ }
+    ensures kept { λ _. ⌜ now (book .exit) ≡ now (book .entry) ⌝ }
 {
     let starts = starts_in(book);
     policy_in(book, starts.policies, i)

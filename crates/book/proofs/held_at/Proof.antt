@@ -17,12 +17,12 @@ enum-told c = search needs
 returns : tie.Need-returns
 returns c =
     let p = c .before .before .before in
-    ap heldOr0 (sym (c .before .held .given .1) ∙ p .holdings-at .ensures)
+    ap heldOr0 (sym (c .before .held .given .1) ∙ p .holdings-at .ensures .0)
 
 returns-2 : tie.Need-returns-2
 returns-2 c =
     let p = c .before .before in
-    ap heldOr0 (sym (c .enum-told .given .1) ∙ p .holdings-at .ensures)
+    ap heldOr0 (sym (c .enum-told .given .1) ∙ p .holdings-at .ensures .0)
 
 pub held-at-spec : {M : Type 1} → statement M
 held-at-spec =

@@ -5,6 +5,7 @@ use native.Mathlib.Omega.{arith}
 use Rattle.book.specs.Reading.{fieldsAt}
 use Rattle.book.specs.Parts.{holdingsFrom}
 use Rattle.book.specs.declared.Holdings.the-variants as holdings
+use Rattle.book.proofs.Looks.{both}
 use Rattle.book.proofs.Places.{place-within}
 use Rattle.book.proofs.holdings_at.Statement.{statement}
 use Rattle.book.proofs.holdings_at.Tie as tie
@@ -31,16 +32,18 @@ enum-told c = search needs
 returns : tie.Need-returns
 unfolding fieldsAt
 returns c =
+    both (
     let p = c .before .before .before .before in
     let a = p .before .before .args in
     ap holdings.Held (c .four .ensures)
-    ∙ ap (holdingsFrom (a .book .now)) (sym (c .before .before .at .given .1) ∙ p .place-of .ensures)
+    ∙ ap (holdingsFrom (a .book .now)) (sym (c .before .before .at .given .1) ∙ p .place-of .ensures))
 
 returns-2 : tie.Need-returns-2
 returns-2 c =
+    both (
     let p = c .before .before in
     let a = p .before .before .args in
-    ap (holdingsFrom (a .book .now)) (sym (c .enum-told .given .1) ∙ p .place-of .ensures)
+    ap (holdingsFrom (a .book .now)) (sym (c .enum-told .given .1) ∙ p .place-of .ensures))
 
 pub holdings-at-spec : {M : Type 1} → statement M
 holdings-at-spec =

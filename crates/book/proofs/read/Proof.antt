@@ -7,6 +7,7 @@ use Rattle.book.specs.Reading.{Found, startsOf, looksFromRows, readOf}
 use Rattle.book.specs.Steps.{pastIn, readRows}
 use Rattle.book.specs.declared.Section.the-variants.{Permissions}
 use Rattle.book.specs.declared.Reading.the-variants as read
+use Rattle.book.proofs.Looks.{both}
 use Rattle.book.proofs.Looks.{read-refused, read-on}
 use Rattle.book.proofs.read.Statement.{statement}
 use Rattle.book.proofs.read.Tie as tie
@@ -30,19 +31,21 @@ read-rows-requires c κs = search needs
 returns : tie.Need-returns
 unfolding readOf
 returns c =
+    both (
     let s = c .before .before .before in
     let a = s .before .before .args in
     sym (read-refused Permissions (a .book .now) 0 0 (read.Good (startsOf (a .book .now))) (rest (a .book .now))
-    (sym (s .section-step .ensures) ∙ c .before .fault .given .1))
+    (sym (s .section-step .ensures) ∙ c .before .fault .given .1)))
 
 returns-2 : tie.Need-returns-2
 unfolding readOf readRows
 returns-2 c =
+    both (
     let s = c .before .before .before .before in
     let a = s .before .before .args in
     let e = read-on Permissions (a .book .now) 0 0 (read.Good (startsOf (a .book .now))) (rest (a .book .now))
     (sym (s .section-step .ensures) ∙ c .before .before .rows .given .1) in
-    c .read-rows .ensures ∙ ap (readRows (a .book .now)) (e .1) ∙ sym (e .0)
+    c .read-rows .ensures ∙ ap (readRows (a .book .now)) (e .1) ∙ sym (e .0))
 
 pub read-spec : {M : Type 1} → statement M
 read-spec =

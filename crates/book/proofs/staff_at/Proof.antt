@@ -4,6 +4,7 @@ use mathlib.Core.Path.{_≡_, sym, ap, _∙_}
 use Rattle.book.specs.Reading.{fieldsAt}
 use Rattle.book.specs.Parts.{staffFrom}
 use Rattle.book.specs.declared.Staff.the-variants as staff
+use Rattle.book.proofs.Looks.{both}
 use Rattle.book.proofs.staff_at.Statement.{statement}
 use Rattle.book.proofs.staff_at.Tie as tie
 
@@ -22,16 +23,18 @@ enum-told c = search needs
 returns : tie.Need-returns
 unfolding fieldsAt
 returns c =
+    both (
     let p = c .before .before .before .before in
     let a = p .before .before .args in
     ap staff.Number (c .four .ensures)
-    ∙ ap (staffFrom (a .book .now)) (sym (c .before .before .at .given .1) ∙ p .place-of .ensures)
+    ∙ ap (staffFrom (a .book .now)) (sym (c .before .before .at .given .1) ∙ p .place-of .ensures))
 
 returns-2 : tie.Need-returns-2
 returns-2 c =
+    both (
     let p = c .before .before in
     let a = p .before .before .args in
-    ap (staffFrom (a .book .now)) (sym (c .enum-told .given .1) ∙ p .place-of .ensures)
+    ap (staffFrom (a .book .now)) (sym (c .enum-told .given .1) ∙ p .place-of .ensures))
 
 pub staff-at-spec : {M : Type 1} → statement M
 staff-at-spec =

@@ -7,6 +7,7 @@ use Rattle.roster.specs.declared.Table.{Table}
 use Rattle.book.specs.Reading.{countAt}
 use Rattle.book.specs.Parts.{holdingsAt, heldOr0, upFrom, tableOf}
 use Rattle.book.specs.declared.Starts.{Starts}
+use Rattle.book.proofs.Looks.{both}
 use Rattle.book.proofs.table_of.Statement.{statement}
 use Rattle.book.proofs.table_of.Tie as tie
 
@@ -30,10 +31,11 @@ all-held-requires c κs = search needs
 returns : tie.Need-returns
 unfolding tableOf
 returns c =
+    both (
     let a = c .before .before .before .before .args in
-    let e = c .before .before .starts-in .ensures in
+    let e = c .before .before .starts-in .ensures .0 in
     table-of (c .all-held .ensures ∙ ap (λ (s : Starts). heldFrom (a .book .now) (s .rows)) e)
-    (c .before .count-at .ensures ∙ ap (λ (s : Starts). countAt (a .book .now) (s .rows)) e)
+    (c .before .count-at .ensures ∙ ap (λ (s : Starts). countAt (a .book .now) (s .rows)) e))
 
 pub table-of-spec : {M : Type 1} → statement M
 table-of-spec = tie.close (tie.spec starts-in-requires count-at-requires all-held-requires returns)
