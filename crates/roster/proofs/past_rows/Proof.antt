@@ -18,7 +18,7 @@ shifted : (k m : ℕ) → not (eqb (m / 2 ^ k) 0) ≡ leb (2 ^ k) m
 shifted k m = go (decLe (2 ^ k) m)
   where
     go : Dec (2 ^ k ≤ m) → not (eqb (m / 2 ^ k) 0) ≡ leb (2 ^ k) m
-    go (yes l) = simp (ne-eqb _ _ (λ e. omega (arith, shifted-out k m e)), le-leb _ _ l)
+    go (yes l) = simp (ne-eqb (m / 2 ^ k) 0 (λ e. omega (arith, shifted-out k m e)), le-leb _ _ l)
     go (no n) =
         let l : m < 2 ^ k = lt-of-not-le n in
         simp (eq-eqb _ _ (div-eq-of-lt l), lt-leb _ _ l)

@@ -41,8 +41,8 @@ named-after-policy rows P d t A =
 
 -- ---- an admitted question has its numbers within the limits
 
-pub record Within (rows P s d t : ℕ) : Type 0 where
-  pub rows : rows ≤ rowLimit
+pub record Within (n P s d t : ℕ) : Type 0 where
+  pub rows : n ≤ rowLimit
   pub task : P ≡ 0 → ⊥
   pub away : s ≤ awayLimit
   pub some : 1 ≤ d
