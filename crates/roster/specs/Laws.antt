@@ -1,1 +1,3 @@
-pub mod Probe
+pub mod More
+pub mod Image
+pub mod Rank
