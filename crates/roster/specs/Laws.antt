@@ -1,3 +1,5 @@
 pub mod More
 pub mod Image
 pub mod Rank
+pub mod Order
+pub mod Lists
