@@ -3,3 +3,4 @@ pub mod Image
 pub mod Rank
 pub mod Order
 pub mod Lists
+pub mod Swap
