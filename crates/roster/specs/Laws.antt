@@ -1,4 +1,3 @@
-pub mod More
 pub mod Image
 pub mod Rank
 pub mod Order

@@ -7,9 +7,9 @@ use native.Mathlib.Decide.{decLt, ℕ-discrete}
 use native.Mathlib.Omega.{arith}
 use lib.Pow.{pow-pos, ones-lt}
 use lib.Count.{ones}
-use Rattle.sets.specs.Sets.{bit, Has, Sub, bit-le, bit-none, bit-high, bit-full, sub-eq, with, with-lt, bit-with-same, bit-with-other, ones-with}
+use Rattle.sets.specs.Sets.{bit, Has, Sub, bit-le, bit-none, bit-high, bit-full, sub-eq, ones-none, with, with-lt, bit-with-same, bit-with-other, ones-with}
 use Rattle.sets.specs.Sums.{sumTo}
-use Rattle.roster.specs.Laws.More.{ones-sum}
+use Rattle.sets.specs.Laws.Build.{ones-sum}
 
 -- m with x, where the digit is not 0
 unfoldable pub put : ℕ → ℕ → ℕ → ℕ
@@ -59,14 +59,10 @@ image-lt f w (suc n) A h = go (bit A n) (image-lt f w n A (λ i l. h i (omega ar
     go zero l = l
     go (suc b) l = with-lt w (image f n A) (f n) l (h n (omega arith))
 
-ones-0 : ones 0 ≡ 0
-unfolding ones
-ones-0 = refl
-
 -- as many numbers as members, where the numbering tells them apart
 image-sum : (f : ℕ → ℕ) (n A : ℕ) → ((u v : ℕ) → u < n → v < n → f u ≡ f v → u ≡ v) → ones (image f n A) ≡ sumTo n (bit A)
 unfolding image put sumTo
-image-sum f zero A inj = ones-0
+image-sum f zero A inj = ones-none
 image-sum f (suc n) A inj = go (bit A n) refl (image-sum f n A (λ u v p q. inj u v (omega arith) (omega arith)))
   where
     new : Dec (bit (image f n A) (f n) ≡ 1) → bit (image f n A) (f n) ≡ 0

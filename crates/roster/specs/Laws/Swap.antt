@@ -13,9 +13,9 @@ use lib.Bits.{bitAnd}
 use lib.Count.{ones}
 use Rattle.sets.specs.Sets.{bit, Has, Sub, Apart, bit-le, bit-none, bit-below, bit-pow-same, bit-pow-other, trade, ones-trade, trade-lt, bit-trade-in, bit-trade-out, bit-trade-other}
 use Rattle.sets.specs.Sums.{sumTo}
+use Rattle.sets.specs.Laws.Sums.{sum-add, sum-one}
 use Rattle.roster.specs.declared.Table.{Table}
 use Rattle.roster.specs.Meaning.{held, Covers, CrewList, Blocks, Absence, Holds, Outweighs, rank, Earlier, Worth, First, FirstBlocker}
-use Rattle.roster.specs.Laws.More.{sum-add, sum-one}
 use Rattle.roster.specs.Laws.Rank.{outweighs-rank}
 use Rattle.roster.specs.Laws.Order.{earlier-trans}
 
