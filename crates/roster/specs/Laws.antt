@@ -3,3 +3,4 @@ pub mod Rank
 pub mod Order
 pub mod Lists
 pub mod Swap
+pub mod Limits
