@@ -4,3 +4,4 @@ pub mod Order
 pub mod Lists
 pub mod Swap
 pub mod Limits
+pub mod Same
