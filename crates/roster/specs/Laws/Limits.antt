@@ -1,16 +1,15 @@
 -- What the limits of a policy mean at their ends: a crew of 64 is no limit; "at most s" and "exactly s" rows absent part only where s exceeds the
 -- number of rows. The idea of the second: a set with more rows than one that blocks blocks too, and a set of rows can be made larger as long as
 -- it lacks one. Assumes nothing.
-use mathlib.Core.Path.{_≡_, ap}
+use mathlib.Core.Path.{_≡_}
 use mathlib.Core.Logic.{_≢_, _↔_}
 use mathlib.Core.List.{List}
 use Prim.Native.Nat.{ℕ, zero, suc, _+_, _-_, _^_, _≤_, _<_}
-use native.Mathlib.Nat.{lt-of-not-le}
 use native.Mathlib.Omega.{arith}
 use lib.ListN.{length, getD}
-use lib.Pow.{pow-pos}
-use lib.Count.{ones, ones-le, ones-ones, trailingZeros}
-use Rattle.sets.specs.Sets.{bit, Has, Sub, Apart, bit-le, bit-not, bit-below, bit-full, trailing-least, with, with-lt, bit-or, ones-with}
+use lib.Pow.{pow-pos, ones-lt}
+use lib.Count.{ones, ones-le, ones-ones}
+use Rattle.sets.specs.Sets.{Has, Sub, Apart, bit-below, bit-full, fresh, with, with-lt, bit-or, ones-with}
 use Rattle.roster.specs.declared.Table.{Table}
 use Rattle.roster.specs.Limits.{rowLimit, sizeLimit}
 use Rattle.roster.specs.Meaning.{Covers, CrewList, Blocks, Holds}
@@ -58,24 +57,14 @@ blocks-more table P d t A B sub b crews k =
       whole = k .whole;
     })
 
--- a set of fewer than n numbers below n lacks one of them
-lacks : (n A : ℕ) → A < 2 ^ n → ones A < n → (i : ℕ) × (i < n) × (bit A i ≡ 0)
-lacks n A h l =
-    let some : 0 < (2 ^ n - 1) - A = lt-of-not-le (λ (z : (2 ^ n - 1) - A ≤ 0). full (omega arith)) in
-    let least = trailing-least n ((2 ^ n - 1) - A) (omega (arith, pow-pos n)) some in
-    let i = trailingZeros n ((2 ^ n - 1) - A) in
-    (i, least .below, omega (arith, bit-not n A i h (least .below), least .has, bit-le A i))
-  where
-    full : A ≡ 2 ^ n - 1 → ⊥
-    full e = omega (arith, ap ones e, ones-ones n)
-
--- so it grows to any size up to n
+-- a set of numbers below n grows to any size up to n
 grow : (n k A : ℕ) → A < 2 ^ n → k + ones A ≤ n → (B : ℕ) × (B < 2 ^ n) × Sub A B × (ones B ≡ k + ones A)
 grow n zero A h l = (A, h, λ i. omega arith, omega arith)
 grow n (suc k) A h l =
-    let new = lacks n A h (omega arith) in
+    let new = fresh A (2 ^ n - 1) (omega (arith, ones-ones n)) in
+    let below : new .0 < n = bit-below (2 ^ n - 1) n (new .0) (ones-lt n) (new .1) in
     let more = ones-with A (new .0) (new .2) in
-    let rest = grow n k (with A (new .0)) (with-lt n A (new .0) h (new .1)) (omega arith) in
+    let rest = grow n k (with A (new .0)) (with-lt n A (new .0) h below) (omega arith) in
     (rest .0, rest .1, λ i. omega (arith, rest .2 i, bit-or A (2 ^ new .0) i), omega (arith, rest .3))
 
 -- ---- "at most s" and "exactly s"
