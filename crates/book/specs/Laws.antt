@@ -1,3 +1,4 @@
+pub mod First
 pub mod Codec
 pub mod Sections
 pub mod Values
