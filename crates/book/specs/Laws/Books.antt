@@ -141,7 +141,7 @@ book-sound book s =
 
 -- ---- a book without fault is a layout
 
-inside : (most n : ℕ) → outside most n ≡ false → (1 ≤ n) × (n ≤ most)
+pub inside : (most n : ℕ) → outside most n ≡ false → (1 ≤ n) × (n ≤ most)
 inside most n e = go (eqb n 0) (ltb most n) refl refl e
   where
     go : (a b : Bool) → eqb n 0 ≡ a → ltb most n ≡ b → (a || b) ≡ false → (1 ≤ n) × (n ≤ most)
