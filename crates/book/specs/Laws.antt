@@ -5,3 +5,5 @@ pub mod Values
 pub mod Books
 pub mod Longest
 pub mod Prefix
+pub mod Places
+pub mod Parts
