@@ -150,7 +150,9 @@ fn two(book: &[u8], at: usize) -> u32
     if at >= book.len() {
         return 0;
     }
-    wide(byte(book, at)) + 256 * wide(byte(book, at + 1))
+    let low = wide(byte(book, at));
+    let high = wide(byte(book, at + 1));
+    low + 256 * high
 }
 
 // The little endian number of four bytes.
@@ -160,7 +162,9 @@ fn four(book: &[u8], at: usize) -> u32
     if at >= book.len() {
         return 0;
     }
-    two(book, at) + 65536 * two(book, at + 2)
+    let low = two(book, at);
+    let high = two(book, at + 2);
+    low + 65536 * high
 }
 
 // The count that stands at a place.
