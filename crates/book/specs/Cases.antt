@@ -4,18 +4,8 @@ use mathlib.Core.List.{List, [], _∷_, _++_}
 use Prim.Native.Nat.{ℕ}
 use lib.ListN.{length}
 use Rattle.roster.specs.Refusals.{policyRuling}
-use Rattle.book.specs.Layout.{Row, Contents, bytesOf, joined, fieldBytes, littleEndian}
-use Rattle.book.specs.Reading.{
-  number,
-  fieldsAt,
-  countLook,
-  entryLook,
-  inTurn,
-  sectionLooks,
-  past,
-  firstFault,
-  readOf,
-}
+use Rattle.book.specs.Layout.{Contents, bytesOf, joined, fieldBytes, littleEndian}
+use Rattle.book.specs.Reading.{number, fieldsAt, countLook, entryLook, inTurn, sectionLooks, past, firstFault, readOf}
 use Rattle.book.specs.declared.Fault.the-variants as fault
 use Rattle.book.specs.declared.Reading.the-variants as read
 

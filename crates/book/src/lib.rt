@@ -6,11 +6,12 @@ use roster::Policy;
 use roster::Refusal;
 use roster::Table;
 ghost use mathlib.Core.Path.{_≡_};
-ghost use Prim.Native.Nat.{_+_, _<_, _≤_, _^_};
-ghost use lib.Dec.{ltb, leb};
+ghost use Prim.Native.Nat.{_+_, _<_, _^_};
+ghost use lib.Dec.{ltb};
 ghost use lib.ListN.{length, getD};
+ghost use Rattle.roster.specs.Limits.{rowLimit};
 ghost use Rattle.book.specs.Faults.{faultNumber};
-ghost use Rattle.book.specs.Reading.{number, pastListed, codes, rows, policies, countLook, entryLook, readOf};
+ghost use Rattle.book.specs.Reading.{number, pastListed, codes, rows, policies, entryLook, readOf};
 ghost use Rattle.book.specs.Parts.{startsIn, placeOf, staffAt, holdingsAt, heldOr0, upFrom, tableOf, policyCount, policyIn, policyAt};
 ghost use Rattle.book.specs.Steps.{widthIn, leadIn, staysIn, outIn, countFaultIn, countIn, madeAt, lookIn, pastEntry, stepFrom, startAt, stepIn, readPolicies, readRows};
 
@@ -488,7 +489,7 @@ fn held_at(book: &[u8], start: usize, row: usize) -> u32
 
 // The holdings of all rows.
 fn all_held(book: &[u8], start: usize) -> [u32; Policy::ROWS]
-    ensures { λ r. ⌜ r ≡ upFrom 0 64 (λ row. heldOr0 (holdingsAt (now (book .entry)) start row)) ⌝ }
+    ensures { λ r. ⌜ r ≡ upFrom 0 rowLimit (λ row. heldOr0 (holdingsAt (now (book .entry)) start row)) ⌝ }
 {
     let mut held = [0u32; Policy::ROWS];
     let mut row = 0;
@@ -553,6 +554,7 @@ pub struct Book<'a> {
     pub starts: Starts,
 }
 
+// Reads the book once.
 pub fn view<'a>(bytes: &'a [u8]) -> Book<'a>
     ensures { λ r. ⌜ (r .bytes ≡ bytes .entry) × (r .starts ≡ startsIn (now (bytes .entry))) × (now (bytes .exit) ≡ now (bytes .entry)) ⌝ }
 {

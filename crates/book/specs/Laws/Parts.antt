@@ -12,45 +12,18 @@ use Rattle.roster.specs.declared.Policy.{Policy}
 use Rattle.roster.specs.declared.Ruling.{Ruling}
 use Rattle.roster.specs.declared.Table.{Table}
 use Rattle.book.specs.Layout.{Contents, Row, Each, PolicyFits, LayoutOf}
-use Rattle.book.specs.Reading.{Kind, rows, policies, width, entryAt, countAt, past, readOf, startsOf}
-use Rattle.book.specs.Parts.{
-  valuesAt,
-  contentsOf,
-  startsIn,
-  startsBy,
-  placeOf,
-  staffFrom,
-  staffAt,
-  holdingsFrom,
-  holdingsAt,
-  heldOr0,
-  upFrom,
-  tableOf,
-  policyCount,
-  listedBy,
-  policyFrom,
-  policyAt,
-}
+use Rattle.book.specs.Reading.{rows, policies, width, entryAt, countAt, readOf, startsOf}
+use Rattle.book.specs.Parts.{valuesAt, contentsOf, startsIn, startsBy, placeOf, staffFrom, staffAt, holdingsFrom, holdingsAt, heldOr0, upFrom, tableOf, policyCount, listedBy, policyFrom, policyAt}
 use Rattle.book.specs.Promises.{Bytes, staffBy, holdingsBy, policyBy, tableFor, PartsOf, nothing}
 use Rattle.book.specs.Laws.Sections.{entries-length}
 use Rattle.book.specs.Laws.Values.{row-codec, policy-codec}
-use Rattle.book.specs.Laws.Books.{
-  rowsAt,
-  policiesAt,
-  laid,
-  layout-good,
-  Good,
-  Refused,
-  reply,
-  good-layout,
-}
+use Rattle.book.specs.Laws.Books.{rowsAt, policiesAt, laid, layout-good, Good, Refused, reply, good-layout}
 use Rattle.book.specs.Laws.Places.{standing, standing-value, standing-none}
 use Rattle.book.specs.declared.Fault.{Fault}
 use Rattle.book.specs.declared.Holdings.the-variants as holdings
 use Rattle.book.specs.declared.Staff.the-variants as staff
 use Rattle.book.specs.declared.Place.{Place}
 use Rattle.book.specs.declared.Place.the-variants.{At, Nothing}
-use Rattle.book.specs.declared.Reading.{Reading}
 use Rattle.book.specs.declared.Reading.the-variants as read
 use Rattle.book.specs.declared.Starts.{Starts}
 
@@ -199,9 +172,9 @@ view-agrees book bytes row =
           let here = there (v .rows) row (omega arith) in
           let said = p .holdings row ∙ ap holdingsBy (here .1) in
           let table = ap (λ (t : Table). getD (t .holdings) row 0) (p .table)
-              ∙ up-at (λ i. heldOr0 (holdingsBy (getElem? (v .rows) i))) 0 rowLimit row (omega (arith, some .few))
-              ∙ ap (λ (i : ℕ). heldOr0 (holdingsBy (getElem? (v .rows) i))) (omega arith)
-              ∙ ap (λ (o : Option Row). heldOr0 (holdingsBy o)) (here .1) in
+          ∙ up-at (λ i. heldOr0 (holdingsBy (getElem? (v .rows) i))) 0 rowLimit row (omega (arith, some .few))
+          ∙ ap (λ (i : ℕ). heldOr0 (holdingsBy (getElem? (v .rows) i))) (omega arith)
+          ∙ ap (λ (o : Option Row). heldOr0 (holdingsBy o)) (here .1) in
           said ∙ ap holdings.Held (sym table);
       numbered = λ l.
           let here = there (v .rows) row (omega arith) in
