@@ -61,7 +61,7 @@ unfolding closeOf
 shape-close w f s l =
     record { eight = s .eight; closed = omega arith; past = s .past; later = λ j h. s .later j (omega arith) }
 
-none-at : (j : ℕ) → getD noCrews j 0 ≡ 0
+pub none-at : (j : ℕ) → getD noCrews j 0 ≡ 0
 none-at zero = refl
 none-at (suc zero) = refl
 none-at (suc (suc zero)) = refl
