@@ -24,7 +24,7 @@ use Rattle.crews.specs.Filling.{Work, Outcome, crewOf, missingOf, placeO
 use Rattle.crews.specs.Laws.Steps.{lowestOf, putOf, placed-is, Candidate, Tried, among, try-finds, search-done, search-open}
 use Rattle.crews.specs.Laws.Sound.{crew, Shape, Held, here, none-at, shape-put, shape-close, shape-begin, unfinished}
 
-same-or-not : (m n : ℕ) → (m ≡ n) ⊎ (m ≢ n)
+pub same-or-not : (m n : ℕ) → (m ≡ n) ⊎ (m ≢ n)
 same-or-not m n = ⊎-elim (λ e. inl (eqb-true m n e)) (λ e. inr (eqb-false m n e)) (either (eqb m n))
 
 -- the rule of 01: any row may begin a crew, and a crew that covers closes
