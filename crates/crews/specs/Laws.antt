@@ -1,4 +1,4 @@
-pub mod Steps
+pub mod Search
 pub mod Sound
 pub mod Complete
 pub mod Exact
