@@ -20,7 +20,6 @@ use Rattle.roster.specs.Limits.{rowLimit}
 use Rattle.roster.specs.Replies.{noCrews}
 use Rattle.crews.specs.declared.Filling.{Filling}
 use Rattle.crews.specs.Filling.{Work, Outcome, nothing, complete, after, crewOf, missingOf, placeOf, closeOf, placedOf, candidates, tryEach, search}
-use Rattle.crews.specs.Laws.Steps.{try-works, try-fails}
 
 -- the lowest permission of P not yet held by the crew being filled
 abbrev pub lowestOf : Work → Filling → ℕ
@@ -110,6 +109,18 @@ module _ (w : Work) (f : Filling) where
 -- ---- one candidate after another
 
 module _ (deeper : Filling → Outcome) (w : Work) (f : Filling) where
+  pub try-hit : (row : ℕ) (rest : List ℕ) → deeper (placedOf w f row) .found ≡ true
+      → tryEach deeper w f (row ∷ rest) ≡ after 1 (deeper (placedOf w f row))
+  unfolding tryEach
+  try-hit row rest e =
+      let here = deeper (placedOf w f row) in
+      rw (e, tryEach) (ap (λ (b : Bool). record { found = b; crews = here .crews; need = 1 + here .need }) e)
+
+  pub try-miss : (row : ℕ) (rest : List ℕ) → deeper (placedOf w f row) .found ≡ false
+      → tryEach deeper w f (row ∷ rest) ≡ after (1 + deeper (placedOf w f row) .need) (tryEach deeper w f rest)
+  unfolding tryEach
+  try-miss row rest e = rw (e, tryEach)
+
   -- where one is found, some candidate's placement led to it
   pub try-from : (rows : List ℕ) → tryEach deeper w f rows .found ≡ true
       → (row : ℕ) × List·Memᴰ row rows × (deeper (placedOf w f row) .found ≡ true) × (tryEach deeper w f rows .crews ≡ deeper (placedOf w f row) .crews)
@@ -117,9 +128,9 @@ module _ (deeper : Filling → Outcome) (w : Work) (f : Filling) where
   try-from [] e = absurd (true≢false (sym e))
   try-from (row ∷ rest) e =
       ⊎-elim
-      (λ h. (row, List·Memᴰ·head refl, h, ap (λ (o : Outcome). o .crews) (try-works deeper w f row rest h)))
+      (λ h. (row, List·Memᴰ·head refl, h, ap (λ (o : Outcome). o .crews) (try-hit row rest h)))
       (λ h.
-      let m = try-fails deeper w f row rest h in
+      let m = try-miss row rest h in
       let x = try-from rest (sym (ap (λ (o : Outcome). o .found) m) ∙ e) in
       (x .0, List·Memᴰ·tail (x .1), x .2, ap (λ (o : Outcome). o .crews) m ∙ x .3))
       (either (deeper (placedOf w f row) .found))
@@ -129,9 +140,9 @@ module _ (deeper : Filling → Outcome) (w : Work) (f : Filling) where
   try-finds row [] m ok = absurd (List·Memᴰ·not-nil m)
   try-finds row (x ∷ rest) m ok =
       ⊎-elim
-      (λ h. ap (λ (o : Outcome). o .found) (try-works deeper w f x rest h) ∙ h)
+      (λ h. ap (λ (o : Outcome). o .found) (try-hit x rest h) ∙ h)
       (λ h.
-      ap (λ (o : Outcome). o .found) (try-fails deeper w f x rest h)
+      ap (λ (o : Outcome). o .found) (try-miss x rest h)
       ∙ ⊎-elim
       (λ e. absurd (true≢false (sym ok ∙ ap (λ (y : ℕ). deeper (placedOf w f y) .found) e ∙ h)))
       (λ t. try-finds row rest t ok)
@@ -143,9 +154,9 @@ module _ (deeper : Filling → Outcome) (w : Work) (f : Filling) where
   try-none [] e = refl
   try-none (row ∷ rest) e =
       ⊎-elim
-      (λ h. absurd (true≢false (sym h ∙ sym (ap (λ (o : Outcome). o .found) (try-works deeper w f row rest h)) ∙ e)))
+      (λ h. absurd (true≢false (sym h ∙ sym (ap (λ (o : Outcome). o .found) (try-hit row rest h)) ∙ e)))
       (λ h.
-      let m = try-fails deeper w f row rest h in
+      let m = try-miss row rest h in
       ap (λ (o : Outcome). o .crews) m ∙ try-none rest (sym (ap (λ (o : Outcome). o .found) m) ∙ e))
       (either (deeper (placedOf w f row) .found))
 
