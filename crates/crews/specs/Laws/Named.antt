@@ -92,9 +92,9 @@ module _ (table : Table) (P d t A allowance : ℕ) (wide : P < 2 ^ 32) (r : Repl
       → (namedRuling (table .rows) P d t A ≡ ruling.Admitted → needNamed table P d t A ≤ allowance → filling table P d t A .found ≡ false
       → r ≡ replyWith noCrews 0 (needNamed table P d t A) allowance None)
       → NamedReply table P d t A allowance r
-  allowed-by refused over complete exhausted =
+  allowed-by refuses over complete exhausted =
       record {
-        refused = refused;
+        refused = refuses;
         undecided = over;
         crews = λ e l list c. let f = admitted-fair table P d t A wide e in complete e l (list-found (f .0) t A (f .1) list c);
         none = λ e l b. let f = admitted-fair table P d t A wide e in exhausted e l (blocks-none (f .0) t A b);
