@@ -1,11 +1,9 @@
 -- What the functions of this crate answer, in the terms of the definition of filling: the holdings and the holders as the arrays that are
 -- lent, the allowance, and the named-absence question. Nothing here is proved: these are definitions, and they run.
-use mathlib.Core.Path.{_≡_}
-use mathlib.Core.Logic.{_≢_}
 use mathlib.Core.Bool.{Bool, true, false}
 use mathlib.Core.List.{List, [], _∷_}
-use Prim.Native.Nat.{ℕ, zero, suc, _+_, _^_, _≤_, _<_}
-use lib.Dec.{leb}
+use Prim.Native.Nat.{ℕ, zero, suc, _+_, _≤_}
+use lib.Dec.{eqb, leb}
 use lib.ListN.{getD}
 use Rattle.roster.specs.declared.Table.{Table}
 use Rattle.roster.specs.declared.Ruling.{Ruling}
@@ -20,7 +18,7 @@ use Rattle.crews.specs.declared.Filling.{Filling}
 use Rattle.crews.specs.declared.Ending.{Ending}
 use Rattle.crews.specs.declared.Ending.the-variants.{Complete, Exhausted, Undecided}
 use Rattle.crews.specs.declared.Filled.{Filled}
-use Rattle.crews.specs.Filling.{Work, Outcome, nothing, missingOf, searchFrom, plainly, filling}
+use Rattle.crews.specs.Filling.{Work, Outcome, nothing, missingOf, closeOf, searchFrom, filling}
 
 -- f 0, .., f (n - 1)
 unfoldable pub tabulate : ℕ → (ℕ → ℕ) → List ℕ
@@ -48,6 +46,19 @@ filledOf allowance spent o =
 unfoldable pub foundFrom : Work → ℕ → Outcome
 foundFrom w free = elim (leb (w .crews) crewLimit) [ true ↦ searchFrom w free | false ↦ nothing ]
 
+-- "A crew that covers P is closed and the next begun."
+unfoldable pub closedWhere : ℕ → Filling → Filling
+closedWhere task f = elim (eqb (missingOf task f) 0) [ true ↦ closeOf f | false ↦ f ]
+
+-- the reply that a filling comes to
+abbrev pub verdictOf : Ending → Verdict
+verdictOf Complete = verdict.Crews
+verdictOf Exhausted = verdict.None
+verdictOf Undecided = verdict.Undecided
+
+abbrev pub repliedOf : Filled → Reply
+repliedOf filled = record { verdict = verdictOf (filled .ending); crews = filled .crews; blocker = 0; units = filled .units }
+
 -- the verdict on a named absence
 abbrev pub namedVerdict : ℕ → Outcome → Verdict
 namedVerdict allowance o =
@@ -65,11 +76,8 @@ namedBy allowance o (ruling.Refused refusal) = replyWith noCrews 0 0 allowance (
 unfoldable pub namedReplyOf : Table → ℕ → ℕ → ℕ → ℕ → ℕ → Reply
 namedReplyOf table P d t A allowance = namedBy allowance (filling table P d t A) (namedRuling (table .rows) P d t A)
 
--- What filling on from a half-filled state asks: the state's numbers are of their widths, another crew has room, something of the task is
--- missing in the crew being filled, and the allowance is not overspent.
-pub record Ready (task crews : ℕ) (f : Filling) (spent allowance : ℕ) : Type 0 where
+-- What filling on from a half-filled state asks: there is room for another crew, and the allowance is not overspent.
+pub record Ready (crews : ℕ) (f : Filling) (spent allowance : ℕ) : Type 0 where
   pub few : crews ≤ crewLimit
   pub closed : f .closed ≤ crews
-  pub free : f .free < 2 ^ 64
-  pub lacking : missingOf task f ≢ 0
   pub within : spent ≤ allowance
