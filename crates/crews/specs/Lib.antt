@@ -2,3 +2,4 @@ pub mod Filling
 pub mod Filled
 pub mod Named
 pub mod Cases
+pub mod Laws
