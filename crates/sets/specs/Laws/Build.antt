@@ -2,13 +2,16 @@
 use mathlib.Core.Path.{_≡_, refl, sym, ap, _∙_}
 use mathlib.Core.Bool.{Bool, true, false}
 use mathlib.Core.Logic.{_⊎_, inl, inr, ⊎-elim}
-use Prim.Native.Nat.{ℕ, zero, suc, _+_, _*_, _^_, _≤_, _<_}
+use Prim.Native.Nat.{ℕ, zero, suc, _+_, _^_, _≤_, _<_}
 use native.Mathlib.Decide.{ℕ-discrete}
 use native.Mathlib.Nat.{one-mul}
 use native.Mathlib.Omega.{arith}
 use lib.Bits.{bitOr, or-shifted-r}
 use lib.Count.{ones}
-use Rattle.sets.specs.Sets.{bit, bit-high, bit-with-same, bit-with-other, ext, ones-with, ones-none}
+use Rattle.sets.specs.Mask.{bit}
+use Rattle.sets.specs.Laws.Digits.{bit-high, ext}
+use Rattle.sets.specs.Laws.Sizes.{ones-none}
+use Rattle.sets.specs.Laws.Change.{bit-with-same, bit-with-other, ones-with}
 use Rattle.sets.specs.Sums.{sumTo, toN}
 use Rattle.sets.specs.Members.{setOf, hasb}
 use Rattle.sets.specs.Laws.Sums.{either, toN-true, toN-false, sum-ext}

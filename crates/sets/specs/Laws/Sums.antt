@@ -1,12 +1,13 @@
 -- Laws of sums over the numbers below n, and of tests as numbers. Assumes nothing.
-use mathlib.Core.Path.{_≡_, refl, sym, ap, _∙_}
+use mathlib.Core.Path.{_≡_, refl, sym, ap}
 use mathlib.Core.Logic.{_⊎_, inl, inr}
 use mathlib.Core.Bool.{Bool, true, false}
 use Prim.Native.Nat.{ℕ, zero, suc, _+_, _*_, _^_, _≤_, _<_, zero-le}
 use native.Mathlib.Decide.{ℕ-discrete}
 use native.Mathlib.Omega.{arith}
 use lib.Dec.{T}
-use Rattle.sets.specs.Sets.{bit, bit-pow-same, bit-pow-other}
+use Rattle.sets.specs.Mask.{bit}
+use Rattle.sets.specs.Laws.Digits.{bit-pow-same, bit-pow-other}
 use Rattle.sets.specs.Sums.{sumTo, toN}
 
 -- ---- sums
