@@ -1,16 +1,11 @@
 -- The reply that runs, `namedReplyOf`, is one that is allowed, for every table and every numbers. Assumes nothing.
-use mathlib.Core.Path.{_≡_, refl, sym, ap, ap₂, _∙_}
-use mathlib.Core.Bool.{Bool, true, false}
-use mathlib.Core.List.{List}
+use mathlib.Core.Path.{_≡_, ap, _∙_}
+use mathlib.Core.Bool.{true, false}
 use Prim.Native.Nat.{ℕ, _^_, _≤_, _<_}
-use lib.Dec.{leb}
 use borrow.Author.Tests.{le-leb, lt-leb}
 use Rattle.roster.specs.declared.Table.{Table}
-use Rattle.roster.specs.declared.Ruling.{Ruling}
-use Rattle.roster.specs.declared.Verdict.{Verdict}
 use Rattle.roster.specs.declared.Verdict.the-variants.{Undecided, Crews, None}
-use Rattle.roster.specs.declared.Reply.{Reply}
-use Rattle.roster.specs.Replies.{noCrews, replyWith}
+use Rattle.roster.specs.Replies.{replyWith}
 use Rattle.crews.specs.Filling.{Outcome, filling}
 use Rattle.crews.specs.Filled.{namedVerdict, namedBy, namedReplyOf}
 use Rattle.crews.specs.Named.{NamedReply}
