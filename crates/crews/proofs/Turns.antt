@@ -1,6 +1,6 @@
 -- The loop of `fill_on`, apart from its code: what is still to be tried is `rest`, and trying it at `units` gives what the whole search gives
 -- at `spent`. Each way through a turn keeps that or ends with the answer. Assumes nothing.
-use mathlib.Core.Path.{_≡_, refl, sym, ap, ap₂, _∙_, subst}
+use mathlib.Core.Path.{_≡_, refl, sym, ap, ap₂, _∙_}
 use mathlib.Core.Logic.{_⊎_, inl, inr, _≢_}
 use mathlib.Core.Bool.{true, false}
 use mathlib.Core.List.{List, _∷_}
@@ -18,7 +18,7 @@ use Rattle.roster.specs.Replies.{noCrews}
 use Rattle.crews.specs.declared.Filling.{Filling}
 use Rattle.crews.specs.declared.Ending.the-variants.{Complete, Exhausted, Undecided}
 use Rattle.crews.specs.declared.Filled.{Filled}
-use Rattle.crews.specs.Filling.{Work, Outcome, nothing, crewOf, missingOf, placeOf, closeOf, placedOf, tryEach, search, plainly}
+use Rattle.crews.specs.Filling.{Work, Outcome, crewOf, missingOf, placeOf, closeOf, placedOf, tryEach, search, plainly}
 use Rattle.crews.specs.Filled.{at, filledOf, closedWhere, Ready}
 use Rattle.crews.specs.Laws.Steps as step
 
@@ -79,7 +79,7 @@ module _ (holds holders : List ℕ) (task crews size : ℕ) (f : Filling) (spent
         within = l;
         same =
             ap (filledOf allowance spent)
-            (step.search-open (at holds) (at holders) task crews size f n h ∙ ap (λ (x : ℕ). trying (members 0 64 x)) (sym e));
+            (step.search-tries (at holds) (at holders) task crews size f n h ∙ ap (λ (x : ℕ). trying (members 0 64 x)) (sym e));
       }
 
   module _ (rest units : ℕ) (g : Going rest units) where

@@ -10,9 +10,10 @@ ghost use mathlib.Core.Path.{_≡_};
 ghost use Prim.Native.Nat.{_-_, _≤_, _<_, _^_};
 ghost use lib.Bits.{bitAnd, bitXor};
 ghost use lib.Count.{ones, trailingZeros};
-ghost use Rattle.sets.specs.Sets.{minus};
-ghost use Rattle.crews.specs.Filling.{missingOf, placeOf, closeOf, begin, search, plainly, holdsOf, holdersOf};
-ghost use Rattle.crews.specs.Filled.{tabulate, at, filledOf, closedWhere, foundFrom, repliedOf, namedReplyOf, Ready};
+ghost use Rattle.roster.specs.Limits.{rowLimit, crewLimit};
+ghost use Rattle.crews.specs.Filling.{placeOf, closeOf, begin, search, plainly, holdsOf, holdersOf};
+ghost use Rattle.crews.specs.Filled.{tabulate, at, filledOf, closedWhere, foundFrom, repliedOf, Ready};
+ghost use Rattle.crews.specs.Named.{NamedReply};
 
 // The half-filled crews: those closed and the one being filled, the rows neither absent nor placed, and what the crew being filled holds.
 pub struct Filling {
@@ -51,7 +52,7 @@ impl Filling {
 
     // The row in the crew being filled, which then holds what the row holds.
     fn place(self, row: usize, holds: u32) -> Filling
-        requires { ⌜ (row < 64) × (self .closed < 8) ⌝ }
+        requires { ⌜ (row < rowLimit) × (self .closed < crewLimit) ⌝ }
         ensures { λ r. ⌜ r ≡ placeOf self row holds ⌝ }
     {
         let at = self.closed;
@@ -67,7 +68,7 @@ impl Filling {
 
     // The next crew begun.
     fn close(self) -> Filling
-        requires { ⌜ self .closed < 8 ⌝ }
+        requires { ⌜ self .closed < crewLimit ⌝ }
         ensures { λ r. ⌜ r ≡ closeOf self ⌝ }
     {
         let crews = self.crews;
@@ -81,7 +82,7 @@ impl Filling {
 
     // The row placed, and the crew closed where it now covers the task.
     fn placed(self, row: usize, holds: u32, task: u32) -> Filling
-        requires { ⌜ (row < 64) × (self .closed < 8) ⌝ }
+        requires { ⌜ (row < rowLimit) × (self .closed < crewLimit) ⌝ }
         ensures { λ r. ⌜ r ≡ closedWhere task (placeOf self row holds) ⌝ }
     {
         let f = self.place(row, holds);
@@ -100,23 +101,11 @@ fn missing(task: u32, held: u32) -> u32
     task ^ (task & held)
 }
 
-fn lowest_permission(set: u32) -> u32
-    ensures { λ r. ⌜ r ≡ trailingZeros 32 set ⌝ }
-{
-    u32::trailing_zeros(set)
-}
-
-fn lowest_row(set: u64) -> u32
-    ensures { λ r. ⌜ r ≡ trailingZeros 64 set ⌝ }
-{
-    u64::trailing_zeros(set)
-}
-
 // The free rows that hold the lowest permission of those missing. Where none is missing there is no such row.
 fn candidates(holders: &[u64], missing: u32, free: u64) -> u64
     ensures { λ r. ⌜ r ≡ bitAnd (at (now (holders .entry)) (trailingZeros 32 missing)) free ⌝ }
 {
-    let permission = lowest_permission(missing) as usize;
+    let permission = sets::lowest(missing) as usize;
     if permission >= holders.len() {
         return 0;
     }
@@ -163,7 +152,7 @@ fn fill_on(
                 units: allowance,
             };
         }
-        let row = lowest_row(rest) as usize;
+        let row = sets::least(rest) as usize;
         rest = rest ^ (1u64 << row);
         let filled = fill_on(
             holds,
@@ -236,7 +225,7 @@ pub fn fill(
 
 // Each row's holdings within the task. A row past the count holds nothing.
 pub fn holdings_within(table: Table, task: u32) -> [u32; Policy::ROWS]
-    ensures { λ r. ⌜ r ≡ tabulate 64 (holdsOf table task) ⌝ }
+    ensures { λ r. ⌜ r ≡ tabulate rowLimit (holdsOf table task) ⌝ }
 {
     let holdings = table.holdings;
     let rows = table.rows;
@@ -282,7 +271,7 @@ pub fn holders_of(holds: &[u32; Policy::ROWS]) -> [u64; 32]
 
 // The set of all rows. A shift by 64 is no operation.
 fn everyone(rows: usize) -> u64
-    requires { ⌜ rows ≤ 64 ⌝ }
+    requires { ⌜ rows ≤ rowLimit ⌝ }
     ensures { λ r. ⌜ r ≡ 2 ^ rows - 1 ⌝ }
 {
     if rows == Policy::ROWS {
@@ -319,7 +308,7 @@ pub fn ask_named(
     absent: u64,
     allowance: u32,
 ) -> Reply
-    ensures { λ r. ⌜ r ≡ namedReplyOf table task crews size absent allowance ⌝ }
+    ensures { λ r. ⌜ NamedReply table task crews size absent allowance r ⌝ }
 {
     let rows = table.rows;
     match roster::named_ruling(rows, task, crews, size, absent) {

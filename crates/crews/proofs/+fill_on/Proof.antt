@@ -1,6 +1,6 @@
 -- Each way through the code is one step of the definition: the returns before the loop are `search-done` and `search-full`, the loop keeps
 -- `Going`, and each turn ends by a law of Turns. The measure is the number of free rows, which falls with each placement. Assumes nothing.
-use mathlib.Core.Path.{_≡_, refl, ap, _∙_}
+use mathlib.Core.Path.{refl, ap, _∙_}
 use Prim.Native.Nat.{ℕ, _<_}
 use native.Mathlib.Omega.{arith}
 use lib.Bits.{bitAnd}
@@ -8,10 +8,11 @@ use lib.Count.{ones, trailingZeros}
 use borrow.Author.Needs.{needs}
 use borrow.Fn.Kinds.{In}
 use borrow.Fn.PlainCycle.{Measures, is, falls, and}
-use Rattle.sets.specs.Sets.{shl-one}
 use Rattle.sets.proofs.size.Reads as size-reads
 use Rattle.crews.specs.declared.Filling.{Filling}
 use Rattle.crews.specs.Filled.{at}
+use Rattle.crews.specs.Filling.{plainly}
+use Rattle.crews.specs.Laws.Search.{search-done, search-full}
 use Rattle.crews.specs.Laws.Steps as step
 use Rattle.crews.proofs.Turns as turn
 use Rattle.crews.proofs.fill_on.Reads as fill-on
@@ -19,7 +20,7 @@ use Rattle.crews.proofs.fill_on.Kinds as fill-on-kinds
 use Rattle.crews.proofs.+fill_on.Lts-fill_on as fill-on-lts
 use Rattle.crews.proofs.Filling.placed.Reads as placed-reads
 use Rattle.crews.proofs.candidates.Reads as candidates-reads
-use Rattle.crews.proofs.lowest_row.Reads as lowest-row-reads
+use Rattle.sets.proofs.least.Reads as least-reads
 use Rattle.crews.proofs.missing.Reads as missing-reads
 use Rattle.crews.proofs.+fill_on.{statement}
 use Rattle.crews.proofs.+fill_on.Tie.{close}
@@ -41,8 +42,8 @@ callees t = (
   missing-reads.Learnt,
   candidates-reads.Asked,
   candidates-reads.Learnt,
-  lowest-row-reads.Asked,
-  lowest-row-reads.Learnt,
+  least-reads.Asked,
+  least-reads.Learnt,
   placed-reads.Asked,
   placed-reads.Learnt,
   fill-on-below t,
@@ -61,7 +62,7 @@ fill-on-returns t c =
     let s0 = c .before .before in
     let s = s0 .args in
     step.says-complete (s .allowance) (s .spent) (s .f .crews) _
-    (step.search-done (at (s .holds .now)) (at (s .holders .now)) (s .task) (s .crews) (s .size) (s .f) (ones (s .f .free)) (c .if1 .taken)) (s0 .pre .1 .within)
+    (search-done (plainly (at (s .holds .now)) (at (s .holders .now)) (s .task) (s .crews) (s .size)) (s .f) (ones (s .f .free)) (c .if1 .taken)) (s0 .pre .1 .within)
 
 fill-on-mul-size : (t : ℕ) → fill-on-lts.Need-mul-size (callees t) (fill-on-at t) fill-on.Post fill-on-Inv-loop fill-on-μ-loop
 fill-on-mul-size t c = search needs
@@ -77,7 +78,7 @@ fill-on-returns-2 t c =
     let s0 = c .before .before .before .before in
     let s = s0 .args in
     step.says-exhausted (s .allowance) (s .spent) _
-    (step.search-full (at (s .holds .now)) (at (s .holders .now)) (s .task) (s .crews) (s .size) (s .f) (ones (s .f .free)) (c .before .before .if1 .left)
+    (search-full (plainly (at (s .holds .now)) (at (s .holders .now)) (s .task) (s .crews) (s .size)) (s .f) (ones (s .f .free)) (c .before .before .if1 .left)
     (rw (c .before .size .ensures) at (c .if2 .taken))) (s0 .pre .1 .within)
 
 fill-on-missing-requires : (t : ℕ) → fill-on-lts.Need-missing-requires (callees t) (fill-on-at t) fill-on.Post fill-on-Inv-loop fill-on-μ-loop
@@ -101,8 +102,8 @@ fill-on-returns-3 t c =
     let l = top .loop in
     turn.spent-out (s .holds .now) (s .holders .now) (s .task) (s .crews) (s .size) (s .f) (s .spent) (s .allowance) (l .rest) (l .units) (l .inv) (trailingZeros 64 (l .rest)) refl (c .before .loop-test .taken) (c .if3 .taken)
 
-fill-on-lowest-row-requires : (t : ℕ) → fill-on-lts.Need-lowest-row-requires (callees t) (fill-on-at t) fill-on.Post fill-on-Inv-loop fill-on-μ-loop
-fill-on-lowest-row-requires t c κs = search needs
+fill-on-least-requires : (t : ℕ) → fill-on-lts.Need-least-requires (callees t) (fill-on-at t) fill-on.Post fill-on-Inv-loop fill-on-μ-loop
+fill-on-least-requires t c κs = search needs
 
 fill-on-cast-row : (t : ℕ) → fill-on-lts.Need-cast-row (callees t) (fill-on-at t) fill-on.Post fill-on-Inv-loop fill-on-μ-loop
 fill-on-cast-row t c = search needs
@@ -112,7 +113,7 @@ fill-on-shl-rest t c =
     let top = c .before .before .before in
     let s = top .before .before .before .before .before .before .before .before .args in
     let l = top .loop in
-    let row = c .lowest-row in
+    let row = c .least in
     turn.row-below (s .holds .now) (s .holders .now) (s .task) (s .crews) (s .size) (s .f) (s .spent) (s .allowance) (l .rest) (l .units) (l .inv) (row .result) (row .ensures) (c .before .before .loop-test .taken)
 
 fill-on-mul-placed : (t : ℕ) → fill-on-lts.Need-mul-placed (callees t) (fill-on-at t) fill-on.Post fill-on-Inv-loop fill-on-μ-loop
@@ -123,7 +124,7 @@ fill-on-element-copy-out-placed t c =
     let top = c .before .before .before in
     let s = top .before .before .before .before .before .before .before .before .args in
     let l = top .loop in
-    let row = c .lowest-row in
+    let row = c .least in
     turn.row-below (s .holds .now) (s .holders .now) (s .task) (s .crews) (s .size) (s .f) (s .spent) (s .allowance) (l .rest) (l .units) (l .inv) (row .result) (row .ensures) (c .before .before .loop-test .taken)
 
 fill-on-placed-requires : (t : ℕ) → fill-on-lts.Need-placed-requires (callees t) (fill-on-at t) fill-on.Post fill-on-Inv-loop fill-on-μ-loop
@@ -131,7 +132,7 @@ fill-on-placed-requires t c κs =
     let top = c .before .before .before .before in
     let s = top .before .before .before .before .before .before .before .before .args in
     let l = top .loop in
-    let row = c .before .lowest-row in
+    let row = c .before .least in
     let ready = top .before .before .before .before .before .before .before .before .pre .1 in
     (turn.row-below (s .holds .now) (s .holders .now) (s .task) (s .crews) (s .size) (s .f) (s .spent) (s .allowance) (l .rest) (l .units) (l .inv) (row .result) (row .ensures) (c .before .before .before .loop-test .taken), omega (arith, ready .few, ready .closed, top .before .before .before .before .before .before .if1 .left))
 
@@ -143,7 +144,7 @@ fill-on-fill-on-requires t c κs =
     let top = c .before .before .before .before .before in
     let s = top .before .before .before .before .before .before .before .before .args in
     let l = top .loop in
-    let row = c .before .before .lowest-row in
+    let row = c .before .before .least in
     let s0 = top .before .before .before .before .before .before .before .before in
     let e = c .placed .ensures in
     let free = turn.row-free (s .holds .now) (s .holders .now) (s .task) (s .crews) (s .size) (s .f) (s .spent) (s .allowance) (l .rest) (l .units) (l .inv) (row .result) (row .ensures) (c .before .before .before .before .loop-test .taken) in
@@ -161,7 +162,7 @@ fill-on-loop-less t c =
     let top = c .before .before .before .before .before .before .before .before in
     let s = top .before .before .before .before .before .before .before .before .args in
     let l = top .loop in
-    let row = c .before .before .before .before .before .lowest-row in
+    let row = c .before .before .before .before .before .least in
     turn.rest-falls (s .holds .now) (s .holders .now) (s .task) (s .crews) (s .size) (s .f) (s .spent) (s .allowance) (l .rest) (l .units) (l .inv) (row .result) (row .ensures) (c .before .before .before .before .before .before .before .loop-test .taken)
 
 fill-on-loop-again : (t : ℕ) → fill-on-lts.Need-loop-again (callees t) (fill-on-at t) fill-on.Post fill-on-Inv-loop fill-on-μ-loop
@@ -169,7 +170,7 @@ fill-on-loop-again t c =
     let top = c .before .before .before .before .before .before .before .before in
     let s = top .before .before .before .before .before .before .before .before .args in
     let l = top .loop in
-    let row = c .before .before .before .before .before .lowest-row in
+    let row = c .before .before .before .before .before .least in
     turn.exhausted-here (s .holds .now) (s .holders .now) (s .task) (s .crews) (s .size) (s .f) (s .spent) (s .allowance) (l .rest) (l .units) (l .inv) (row .result) (row .ensures) (c .before .before .before .before .before .before .before .loop-test .taken) (at (s .holds .now) (row .result)) refl (c .before .before .before .placed .result) (c .before .before .before .placed .ensures)
     (c .before .before .fill-on .result) (c .before .before .fill-on .ensures) (c .enum-told .given .1)
 
@@ -181,7 +182,7 @@ fill-on-returns-4 t c =
     let top = c .before .before .before .before .before .before .before .before in
     let s = top .before .before .before .before .before .before .before .before .args in
     let l = top .loop in
-    let row = c .before .before .before .before .before .lowest-row in
+    let row = c .before .before .before .before .before .least in
     turn.complete-here (s .holds .now) (s .holders .now) (s .task) (s .crews) (s .size) (s .f) (s .spent) (s .allowance) (l .rest) (l .units) (l .inv) (row .result) (row .ensures) (c .before .before .before .before .before .before .before .loop-test .taken) (at (s .holds .now) (row .result)) refl (c .before .before .before .placed .result) (c .before .before .before .placed .ensures)
     (c .before .before .fill-on .result) (c .before .before .fill-on .ensures) (c .enum-told2 .given .1)
 
@@ -193,7 +194,7 @@ fill-on-returns-5 t c =
     let top = c .before .before .before .before .before .before .before .before in
     let s = top .before .before .before .before .before .before .before .before .args in
     let l = top .loop in
-    let row = c .before .before .before .before .before .lowest-row in
+    let row = c .before .before .before .before .before .least in
     turn.undecided-here (s .holds .now) (s .holders .now) (s .task) (s .crews) (s .size) (s .f) (s .spent) (s .allowance) (l .rest) (l .units) (l .inv) (row .result) (row .ensures) (c .before .before .before .before .before .before .before .loop-test .taken) (at (s .holds .now) (row .result)) refl (c .before .before .before .placed .result) (c .before .before .before .placed .ensures)
     (c .before .before .fill-on .result) (c .before .before .fill-on .ensures) (c .enum-told3 .given .1)
 
@@ -219,7 +220,7 @@ pub +fill-on-spec : {M : Type 1} → statement M
     (fill-on-candidates-requires t)
     (fill-on-loop-holds t)
     (fill-on-returns-3 t)
-    (fill-on-lowest-row-requires t)
+    (fill-on-least-requires t)
     (fill-on-cast-row t)
     (fill-on-shl-rest t)
     (fill-on-mul-placed t)
