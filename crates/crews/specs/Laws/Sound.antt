@@ -10,7 +10,7 @@ use native.Mathlib.Nat.{lt-of-lt-of-le}
 use native.Mathlib.Omega.{arith}
 use lib.Bits.{bitOr, bitXor}
 use lib.Count.{ones}
-use lib.ListN.{length, getD, take, length-set}
+use lib.ListN.{length, getD, take, replicate, length-set}
 use lib.Pow.{pow-mono, pow-pos}
 use lib.Seq.{getD-set-same, getD-set-other, getD-take, length-take-le}
 use Rattle.sets.specs.Sets.{bit, Has, Sub, Apart, with, bit-le, bit-none, bit-below, bit-and, bit-minus, bit-full, digit, or-in, or-in-l, pow-in, bit-with-same}
@@ -61,16 +61,13 @@ unfolding closeOf
 shape-close w f s l =
     record { eight = s .eight; closed = omega arith; past = s .past; later = λ j h. s .later j (omega arith) }
 
+zeros-at : (n j : ℕ) → _≡_ {A = ℕ} (getD (replicate n 0) j 0) 0
+zeros-at zero j = refl
+zeros-at (suc n) zero = refl
+zeros-at (suc n) (suc j) = zeros-at n j
+
 pub none-at : (j : ℕ) → getD noCrews j 0 ≡ 0
-none-at zero = refl
-none-at (suc zero) = refl
-none-at (suc (suc zero)) = refl
-none-at (suc (suc (suc zero))) = refl
-none-at (suc (suc (suc (suc zero)))) = refl
-none-at (suc (suc (suc (suc (suc zero))))) = refl
-none-at (suc (suc (suc (suc (suc (suc zero)))))) = refl
-none-at (suc (suc (suc (suc (suc (suc (suc zero))))))) = refl
-none-at (suc (suc (suc (suc (suc (suc (suc (suc j)))))))) = refl
+none-at j = zeros-at crewLimit j
 
 pub shape-begin : (w : Work) (F : ℕ) → Shape w (begin F)
 shape-begin w F =
