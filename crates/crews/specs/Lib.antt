@@ -1,3 +1,4 @@
 pub mod Filling
 pub mod Named
 pub mod Cases
+pub mod Laws
