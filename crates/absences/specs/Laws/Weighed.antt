@@ -17,7 +17,8 @@ use Rattle.crews.specs.Filling.{filling}
 use Rattle.absences.specs.Tried.{rowAt, Way, full, skipping, joins, listed, sizesFrom, tried, Found, weighed}
 use Rattle.absences.specs.Laws.Listed.{Ascending, listed-joins, listed-not}
 
-clash : {b : Bool} → b ≡ true → b ≡ false → ⊥
+-- a test has one outcome
+pub clash : {b : Bool} → b ≡ true → b ≡ false → ⊥
 clash p q = subst T (sym p ∙ q) tt
 
 -- c units more
