@@ -21,7 +21,7 @@ use Rattle.roster.specs.Limits.{rowLimit, crewLimit}
 use Rattle.roster.specs.Replies.{noCrews}
 use Rattle.crews.specs.declared.Filling.{Filling}
 use Rattle.crews.specs.Filling.{Work, Outcome, crewOf, missingOf, placeOf, closeOf, placedOf, candidates, tryEach, search, begin}
-use Rattle.crews.specs.Laws.Steps.{lowestOf, putOf, placed-is, Candidate, Tried, among, try-finds, search-done, search-open}
+use Rattle.crews.specs.Laws.Search.{lowestOf, putOf, placed-is, Candidate, Tried, among, try-finds, search-done, search-open}
 use Rattle.crews.specs.Laws.Sound.{crew, Shape, Held, here, none-at, shape-put, shape-close, shape-begin, unfinished}
 
 pub same-or-not : (m n : ℕ) → (m ≡ n) ⊎ (m ≢ n)

@@ -22,7 +22,7 @@ use Rattle.roster.specs.Meaning.{held, Covers, CrewList}
 use Rattle.roster.specs.Replies.{noCrews}
 use Rattle.crews.specs.declared.Filling.{Filling}
 use Rattle.crews.specs.Filling.{Work, Outcome, crewOf, missingOf, placeOf, closeOf, placedOf, search, begin, searchFrom, present}
-use Rattle.crews.specs.Laws.Steps.{putOf, placed-is, Candidate, Tried, search-none, search-keeps}
+use Rattle.crews.specs.Laws.Search.{putOf, placed-is, Candidate, Tried, search-none, search-keeps}
 
 -- the crew at place j
 abbrev pub crew : Filling → ℕ → ℕ
