@@ -1,3 +1,4 @@
 pub mod Listed
 pub mod Weighed
+pub mod Decided
 pub mod Demands

@@ -1,18 +1,13 @@
--- Demand 2 and demand 3 for the policy question. The idea: `tried-sound`, `tried-complete` and `tried-ascending` say what the list is, exactness of
--- the filling that its test is `Blocks`, and the swap that leaving out what is not worth trying loses neither the first blocker nor a "yes". So each
--- question falls under just one row of the table "What comes back", by whichever search; all else follows from that. Assumes nothing.
+-- Demand 2 and demand 3 for the policy question, over all replies that the contracts allow: each question falls under one row of "What comes back"
+-- (`policy-case`), and all else follows from that. Assumes nothing.
 use mathlib.Core.Path.{_≡_, refl, sym, ap, _∙_, subst}
 use mathlib.Core.Logic.{_⊎_, inl, inr, _≢_, _↔_}
-use mathlib.Core.Bool.{Bool, true, false}
-use mathlib.Core.List.{List, List·Memᴰ}
+use mathlib.Core.Bool.{true, false}
+use mathlib.Core.List.{List}
 use Prim.Native.Nat.{ℕ, _^_, _≤_, _<_}
-use native.Mathlib.Decide.{decLe}
 use native.Mathlib.Omega.{arith}
-use lib.Count.{ones}
-use lib.Dec.{leb}
 use lib.ListN.{take}
 use lib.Pow.{pow-pos}
-use borrow.Author.Tests.{le-leb, lt-leb}
 use Rattle.sets.specs.Sets.{ones-none}
 use Rattle.sets.specs.Laws.Sums.{either}
 use Rattle.roster.specs.declared.Table.{Table}
@@ -22,135 +17,30 @@ use Rattle.roster.specs.declared.Ruling.the-variants as ruling
 use Rattle.roster.specs.declared.Verdict.{Verdict}
 use Rattle.roster.specs.declared.Verdict.the-variants.{Yes, No, Undecided, Refused}
 use Rattle.roster.specs.declared.Reply.{Reply}
-use Rattle.roster.specs.Meaning.{CrewList, Blocks, Absence, Holds, Earlier, Worth, First, FirstBlocker}
+use Rattle.roster.specs.Meaning.{CrewList, Holds, FirstBlocker}
 use Rattle.roster.specs.Refusals.{policyRuling}
 use Rattle.roster.specs.Replies.{noCrews, replyWith}
-use Rattle.roster.specs.Laws.Order.{earlier-irrefl, earlier-trans, first-blocker-unique}
-use Rattle.roster.specs.Laws.Swap.{first-tried, first-blocker-worth, none-worth-none}
-use Rattle.roster.specs.Laws.Rulings.{policy-within}
+use Rattle.roster.specs.Laws.Order.{first-blocker-unique}
 use Rattle.crews.specs.Filling.{filling}
 use Rattle.crews.specs.Named.{firstList}
-use Rattle.crews.specs.Laws.Exact.{Fair, finds-list, blocks-none, finds-none}
-use Rattle.absences.specs.Tried.{Way, full, skipping, tried, Found, weighed}
-use Rattle.absences.specs.Asked.{needPolicy, PolicyReply}
+use Rattle.crews.specs.Laws.Exact.{Fair, finds-list, finds-none}
+use Rattle.absences.specs.Tried.{Way, full, skipping, Found}
+use Rattle.absences.specs.Asked.{Refuses, Admits, needPolicy, PolicyReply}
 use Rattle.absences.specs.Replied.{verdictOf, repliedBy, policyReplyOf}
-use Rattle.absences.specs.Laws.Listed.{Picked, tried-sound, tried-complete, tried-ascending}
-use Rattle.absences.specs.Laws.Weighed.{clash, all-fit, Stops, stops, tried-thinned, thinned-need}
+use Rattle.absences.specs.Laws.Listed.{tried-complete, tried-ascending}
+use Rattle.absences.specs.Laws.Decided.{first-picked, first-not-holds, found, none-blocks, stops-first, one-blocks, verdict-late, verdict-no, verdict-yes, Case, is-refused, is-undecided, is-yes, is-no, admitted-fair, policy-case}
+use Rattle.absences.specs.Laws.Weighed.{tried-thinned, thinned-need}
 
--- ---- what is not worth trying may be skipped
-
-module _ (table : Table) (P s d t : ℕ) where
-  -- a first blocker is worth trying, so every search tries it
-  first-picked : (way : Way) (A : ℕ) → FirstBlocker table P s d t A → Picked way table P A
-  first-picked full A f = tt
-  first-picked skipping A f = first-blocker-worth table P s d t A f
-
-  -- the first of the blockers that a search tries is the first of all
-  picked-first : (way : Way) (A : ℕ)
-      → First table P (λ B. (ones B ≤ s) × Blocks table P d t B × Picked way table P B) A → FirstBlocker table P s d t A
-  picked-first full A f = record { rows = f .rows; is = (f .is .0, f .is .1); first = λ B h q. f .first B h (q .0, q .1, tt) }
-  picked-first skipping A f = first-tried table P s d t A .1 f
-
-  -- where nothing that a search tries blocks, nothing does
-  picked-holds : (way : Way) → ((A : ℕ) → Absence table s A → Picked way table P A → Blocks table P d t A → ⊥) → Holds table P s d t
-  picked-holds full none = λ A a b. none A a tt b
-  picked-holds skipping none = none-worth-none table P s d t none
-
-  first-not-holds : (A : ℕ) → FirstBlocker table P s d t A → Holds table P s d t → ⊥
-  first-not-holds A f h = h A (record { rows = f .rows; few = f .is .0 }) (f .is .1)
-
--- ---- what the list comes to, in words of the meaning
-
-abbrev found : Way → Table → ℕ → ℕ → ℕ → ℕ → Found
-found way table P s d t = weighed table P d t (tried way table P s)
-
-module _ (way : Way) (table : Table) (P s d t : ℕ) (fair : Fair table P d) where
-  abbrev asked : Found
-  asked = found way table P s d t
-
-  none-blocks : asked .blocked ≡ false → Holds table P s d t
-  none-blocks e =
-      picked-holds table P s d t way (λ A a p b.
-      clash (all-fit table P d t (tried way table P s) e A (tried-complete way table P s A a p)) (blocks-none fair t A b))
-
-  -- where trying stops is the first blocking absence
-  stops-first : (B : ℕ) → Stops table P d t (tried way table P s) B → FirstBlocker table P s d t B
-  stops-first B st =
-      let is = tried-sound way table P s B (st .listed) in
-      picked-first table P s d t way B (record {
-        rows = is .0 .rows;
-        is = (omega (arith, is .0 .few), finds-none fair t B (is .0 .rows) (st .stuck), is .1);
-        first = λ C h q early.
-            before C h (is .0 .rows) early
-            (st .first (tried-ascending way table P s) C
-            (tried-complete way table P s C (record { rows = h; few = q .0 }) (q .2)) (blocks-none fair t C (q .1)));
-      })
-    where
-      before : (C : ℕ) → C < 2 ^ table .rows → B < 2 ^ table .rows → Earlier table P C B → (C ≡ B) ⊎ Earlier table P B C → ⊥
-      before C h k early (inl q) = earlier-irrefl table P B (subst (λ (x : ℕ). Earlier table P x B) q early)
-      before C h k early (inr q) = earlier-irrefl table P C (earlier-trans table P C B C h k early q)
-
-  one-blocks : asked .blocked ≡ true → FirstBlocker table P s d t (asked .blocker)
-  one-blocks e = stops-first (asked .blocker) (stops table P d t (tried way table P s) e)
-
--- ---- the verdict of the definition
-
-module _ (w : Found) (allowance : ℕ) where
-  pub verdict-late : allowance < w .need → verdictOf w allowance ≡ Undecided
-  verdict-late l = rw (lt-leb (w .need) allowance l, verdictOf)
-
-  pub verdict-no : w .need ≤ allowance → w .blocked ≡ true → verdictOf w allowance ≡ No
-  verdict-no l b = rw (le-leb (w .need) allowance l, verdictOf, b)
-
-  pub verdict-yes : w .need ≤ allowance → w .blocked ≡ false → verdictOf w allowance ≡ Yes
-  verdict-yes l b = rw (le-leb (w .need) allowance l, verdictOf, b)
-
--- ---- which row of the table "What comes back" a question falls under
-
-pub data Case (way : Way) (table : Table) (P s d t allowance : ℕ) : Type 0 where
-  is-refused : (refusal : Refusal) → policyRuling (table .rows) P s d t ≡ ruling.Refused refusal → Case way table P s d t allowance
-  is-undecided : policyRuling (table .rows) P s d t ≡ ruling.Admitted → allowance < needPolicy way table P s d t
-      → Case way table P s d t allowance
-  is-yes : policyRuling (table .rows) P s d t ≡ ruling.Admitted → needPolicy way table P s d t ≤ allowance → Holds table P s d t
-      → Case way table P s d t allowance
-  is-no : policyRuling (table .rows) P s d t ≡ ruling.Admitted → needPolicy way table P s d t ≤ allowance
-      → (A : ℕ) → FirstBlocker table P s d t A → Case way table P s d t allowance
-
--- an admitted question is one that filling decides exactly
-admitted-fair : (table : Table) (P s d t : ℕ) → P < 2 ^ 32 → policyRuling (table .rows) P s d t ≡ ruling.Admitted → Fair table P d
-admitted-fair table P s d t w e =
-    let k = policy-within (table .rows) P s d t e in
-    record { rows = k .rows; task = k .task; wide = w; some = k .some; few = k .few }
+-- ---- demand 1: every input has a reply, and only one
 
 -- P has 32 bits
 module _ (way : Way) (table : Table) (P s d t : ℕ) (wide : P < 2 ^ 32) (allowance : ℕ) where
-  abbrev ruled : Ruling
-  ruled = policyRuling (table .rows) P s d t
-
   abbrev need : ℕ
   need = needPolicy way table P s d t
 
-  -- every question falls under one
-  pub policy-case : Case way table P s d t allowance
-  policy-case = under ruled refl
-    where
-      tells : (e : ruled ≡ ruling.Admitted) → need ≤ allowance
-          → (found way table P s d t .blocked ≡ true) ⊎ (found way table P s d t .blocked ≡ false) → Case way table P s d t allowance
-      tells e l (inl b) =
-          is-no e l (found way table P s d t .blocker) (one-blocks way table P s d t (admitted-fair table P s d t wide e) b)
-      tells e l (inr b) = is-yes e l (none-blocks way table P s d t (admitted-fair table P s d t wide e) b)
-
-      under : (r : Ruling) → ruled ≡ r → Case way table P s d t allowance
-      under (ruling.Refused refusal) e = is-refused refusal e
-      under ruling.Admitted e = pick (decLe need allowance)
-        where
-          pick : Dec (need ≤ allowance) → Case way table P s d t allowance
-          pick (yes l) = tells e l (either (found way table P s d t .blocked))
-          pick (no l) = is-undecided e (omega arith)
-
   -- "any two replies allowed for one input are equal"
   pub policy-same : (r q : Reply) → PolicyReply way table P s d t allowance r → PolicyReply way table P s d t allowance q → r ≡ q
-  policy-same r q a b = go policy-case
+  policy-same r q a b = go (policy-case way table P s d t wide allowance)
     where
       go : Case way table P s d t allowance → r ≡ q
       go (is-refused refusal e) = a .refused refusal e ∙ sym (b .refused refusal e)
@@ -174,17 +64,17 @@ module _ (way : Way) (table : Table) (P s d t : ℕ) (wide : P < 2 ^ 32) (allowa
       gives : Verdict → Reply
       gives = replyWith (firstList table P d t 0) (found way table P s d t .blocker) need allowance
 
-      under : {r : Ruling} → ruled ≡ r
-          → repliedBy ruled (found way table P s d t) (firstList table P d t 0) allowance
+      under : {r : Ruling} → policyRuling (table .rows) P s d t ≡ r
+          → repliedBy (policyRuling (table .rows) P s d t) (found way table P s d t) (firstList table P d t 0) allowance
           ≡ repliedBy r (found way table P s d t) (firstList table P d t 0) allowance
       under e = ap (λ (x : Ruling). repliedBy x (found way table P s d t) (firstList table P d t 0) allowance) e
 
-      all-well : ruled ≡ ruling.Admitted → Holds table P s d t → (w .blocked ≡ true) ⊎ (w .blocked ≡ false) → w .blocked ≡ false
+      all-well : Admits table P s d t → Holds table P s d t → (w .blocked ≡ true) ⊎ (w .blocked ≡ false) → w .blocked ≡ false
       all-well e h (inr b) = b
       all-well e h (inl b) =
           absurd (first-not-holds table P s d t (w .blocker) (one-blocks way table P s d t (admitted-fair table P s d t wide e) b) h)
 
-      stopped : ruled ≡ ruling.Admitted → need ≤ allowance → (A : ℕ) → FirstBlocker table P s d t A
+      stopped : Admits table P s d t → need ≤ allowance → (A : ℕ) → FirstBlocker table P s d t A
           → (w .blocked ≡ true) ⊎ (w .blocked ≡ false) → gives (verdictOf w allowance) ≡ replyWith noCrews A need allowance No
       stopped e l A f (inl b) =
           let one = one-blocks way table P s d t (admitted-fair table P s d t wide e) b in
@@ -198,40 +88,37 @@ module _ (way : Way) (table : Table) (P s d t : ℕ) (wide : P < 2 ^ 32) (allowa
 -- what a reply tells whoever reads it
 pub record Tells (way : Way) (table : Table) (P s d t allowance : ℕ) (r : Reply) : Type 0 where
   -- refused exactly by the rules
-  pub refused : (refusal : Refusal) → (r .verdict ≡ Refused refusal) ↔ (policyRuling (table .rows) P s d t ≡ ruling.Refused refusal)
+  pub refused : (refusal : Refusal) → (r .verdict ≡ Refused refusal) ↔ Refuses table P s d t refusal
   -- "undecided, exactly if allowance < need"
-  pub undecided : (r .verdict ≡ Undecided) ↔ ((policyRuling (table .rows) P s d t ≡ ruling.Admitted) × (allowance < needPolicy way table P s d t))
+  pub undecided : (r .verdict ≡ Undecided) ↔ (Admits table P s d t × (allowance < needPolicy way table P s d t))
   -- else yes exactly if the policy holds
   pub yes : (r .verdict ≡ Yes)
-      ↔ ((policyRuling (table .rows) P s d t ≡ ruling.Admitted) × (needPolicy way table P s d t ≤ allowance) × Holds table P s d t)
+      ↔ (Admits table P s d t × (needPolicy way table P s d t ≤ allowance) × Holds table P s d t)
   -- and no exactly if it does not
   pub no : (r .verdict ≡ No)
-      ↔ ((policyRuling (table .rows) P s d t ≡ ruling.Admitted) × (needPolicy way table P s d t ≤ allowance) × (Holds table P s d t → ⊥))
+      ↔ (Admits table P s d t × (needPolicy way table P s d t ≤ allowance) × (Holds table P s d t → ⊥))
   -- with yes comes a crew list with nobody absent, the first
   pub crews : r .verdict ≡ Yes → (r .crews ≡ firstList table P d t 0) × CrewList table P d t 0 (take d (r .crews))
   -- with no the first blocking absence
   pub blocker : r .verdict ≡ No → FirstBlocker table P s d t (r .blocker)
   -- the units: all that was allowed, or the need
   pub spent : r .verdict ≡ Undecided → r .units ≡ allowance
-  pub units : r .verdict ≢ Undecided → policyRuling (table .rows) P s d t ≡ ruling.Admitted → r .units ≡ needPolicy way table P s d t
+  pub units : r .verdict ≢ Undecided → Admits table P s d t → r .units ≡ needPolicy way table P s d t
+
+-- nobody absent is an absence, so where the policy holds there is a list with nobody absent
+pub holds-list : (table : Table) (P s d t : ℕ) → Fair table P d → Holds table P s d t → CrewList table P d t 0 (take d (firstList table P d t 0))
+holds-list table P s d t fair h = go (either (filling table P d t 0 .found))
+  where
+    go : (filling table P d t 0 .found ≡ true) ⊎ (filling table P d t 0 .found ≡ false) → CrewList table P d t 0 (take d (firstList table P d t 0))
+    go (inl b) = finds-list fair t 0 b
+    go (inr b) =
+        absurd (h 0 (record { rows = pow-pos (table .rows); few = omega (arith, ones-none) })
+        (finds-none fair t 0 (pow-pos (table .rows)) b))
 
 never : {A : Type 0} → _≡_ {A = ℕ} 0 1 → A
 never e = absurd (omega arith)
 
 module _ (way : Way) (table : Table) (P s d t : ℕ) (wide : P < 2 ^ 32) (allowance : ℕ) (r : Reply) (a : PolicyReply way table P s d t allowance r) where
-  -- nobody absent is an absence, so where the policy holds there is a list
-  first-list : ruled way table P s d t wide allowance ≡ ruling.Admitted → Holds table P s d t → CrewList table P d t 0 (take d (firstList table P d t 0))
-  first-list e h = go (admitted-fair table P s d t wide e)
-    where
-      go : Fair table P d → CrewList table P d t 0 (take d (firstList table P d t 0))
-      go fair = pick (either (filling table P d t 0 .found))
-        where
-          pick : (filling table P d t 0 .found ≡ true) ⊎ (filling table P d t 0 .found ≡ false) → CrewList table P d t 0 (take d (firstList table P d t 0))
-          pick (inl b) = finds-list fair t 0 b
-          pick (inr b) =
-              absurd (h 0 (record { rows = pow-pos (table .rows); few = omega (arith, ones-none) })
-              (finds-none fair t 0 (pow-pos (table .rows)) b))
-
   pub policy-exactly : Tells way table P s d t allowance r
   policy-exactly = go (policy-case way table P s d t wide allowance)
     where
@@ -268,7 +155,7 @@ module _ (way : Way) (table : Table) (P s d t : ℕ) (wide : P < 2 ^ 32) (allowa
             undecided = (λ q. never (cc), λ q. absurd (omega (arith, q .1)));
             yes = (λ q. (e, l, h), λ q. v);
             no = (λ q. never (cc), λ q. absurd (q .2 h));
-            crews = λ q. (first, subst (λ (c : List ℕ). CrewList table P d t 0 (take d c)) (sym first) (first-list e h));
+            crews = λ q. (first, subst (λ (c : List ℕ). CrewList table P d t 0 (take d c)) (sym first) (holds-list table P s d t (admitted-fair table P s d t wide e) h));
             blocker = λ q. never (cc);
             spent = λ q. never (cc);
             units = λ n q. ap Reply.units (a .yes e l h);
@@ -322,7 +209,7 @@ module _ (table : Table) (P s d t : ℕ) (wide : P < 2 ^ 32) where
   demand-3-same = decided-alike full skipping
 
   -- "with no more work counted": the first blocker is worth trying, so skipping leaves out only what comes before it, or none blocks
-  pub demand-3-need : policyRuling (table .rows) P s d t ≡ ruling.Admitted → needPolicy skipping table P s d t ≤ needPolicy full table P s d t
+  pub demand-3-need : Admits table P s d t → needPolicy skipping table P s d t ≤ needPolicy full table P s d t
   demand-3-need e =
       thinned-need table P d t (tried-thinned table P s) (tried-ascending full table P s) (λ B st.
       let f = stops-first full table P s d t (admitted-fair table P s d t wide e) B st in

@@ -14,7 +14,7 @@ use Rattle.roster.specs.declared.Table.{Table}
 use Rattle.roster.specs.Meaning.{Earlier}
 use Rattle.roster.specs.Laws.Order.{earlier-irrefl}
 use Rattle.crews.specs.Filling.{filling}
-use Rattle.absences.specs.Tried.{rowAt, Way, full, skipping, joins, listed, sizesFrom, tried, Found, weighed}
+use Rattle.absences.specs.Tried.{rowAt, full, skipping, joins, listed, sizesFrom, tried, Found, weighed}
 use Rattle.absences.specs.Laws.Listed.{Ascending, listed-joins, listed-not}
 
 -- a test has one outcome
