@@ -2,3 +2,4 @@ pub mod Listed
 pub mod Weighed
 pub mod Decided
 pub mod Demands
+pub mod Same

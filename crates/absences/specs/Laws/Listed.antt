@@ -281,13 +281,13 @@ module _ (way : Way) (table : Table) (P : ℕ) where
   list = listed way table P
 
   -- nobody more: F alone
-  none-more : (m r F : ℕ) → list m 0 r F ≡ F ∷ []
+  pub none-more : (m r F : ℕ) → list m 0 r F ≡ F ∷ []
   unfolding listed
   none-more zero r F = refl
   none-more (suc m) r F = refl
 
   -- no row left to take
-  none-left : (k r F : ℕ) → list 0 (suc k) r F ≡ []
+  pub none-left : (k r F : ℕ) → list 0 (suc k) r F ≡ []
   unfolding listed
   none-left k r F = refl
 
