@@ -1,5 +1,5 @@
 pub mod Tried
 pub mod Asked
 pub mod Replied
-pub mod Cases
 pub mod Laws
+pub mod Examples
