@@ -21,7 +21,7 @@ use Rattle.roster.specs.Laws.Rank.{outweighsb}
 use Rattle.roster.specs.Laws.Same.{Agree, same-rank}
 use Rattle.crews.specs.Filling.{Outcome, filling}
 use Rattle.crews.specs.Laws.Same.{same-filling}
-use Rattle.absences.specs.Tried.{rowFrom, rowAt, Way, full, skipping, joins, listed, sizesFrom, tried, Found, weighed}
+use Rattle.absences.specs.Tried.{rowFrom, rowAt, Way, full, skipping, joins, listed, sizesFrom, tried, Found, unitsOf, weighed}
 use Rattle.absences.specs.Asked.{PolicyReply}
 use Rattle.absences.specs.Replied.{repliedBy, policyReplyOf}
 use Rattle.absences.specs.Laws.Listed.{row-here, row-next, rowAt-lt, listed-joins, listed-not, none-more, none-left}
@@ -104,11 +104,11 @@ module _ (table other : Table) (P : ℕ) (same : Agree table other P) where
             → weighed table P d t (A ∷ l) ≡ weighed other P d t (A ∷ l)
         go (inl f) ih =
             weighed-fits table P d t A l f
-            ∙ ap₂ (λ (o : Outcome) (w : Found). dearer (1 + o .need) w) fill ih
+            ∙ ap₂ (λ (o : Outcome) (w : Found). dearer (unitsOf o) w) fill ih
             ∙ sym (weighed-fits other P d t A l (sym (ap Outcome.found fill) ∙ f))
         go (inr f) ih =
             weighed-blocks table P d t A l f
-            ∙ ap {B = Found} (λ (o : Outcome). record { blocked = true; blocker = A; need = 1 + o .need }) fill
+            ∙ ap {B = Found} (λ (o : Outcome). record { blocked = true; blocker = A; need = unitsOf o }) fill
             ∙ sym (weighed-blocks other P d t A l (sym (ap Outcome.found fill) ∙ f))
 
     same-reply : (way : Way) (s allowance : ℕ) → policyReplyOf way table P s d t allowance ≡ policyReplyOf way other P s d t allowance

@@ -14,7 +14,7 @@ use Rattle.roster.specs.declared.Table.{Table}
 use Rattle.roster.specs.Meaning.{Earlier}
 use Rattle.roster.specs.Laws.Order.{earlier-irrefl}
 use Rattle.crews.specs.Filling.{filling}
-use Rattle.absences.specs.Tried.{rowAt, full, skipping, joins, listed, sizesFrom, tried, Found, weighed}
+use Rattle.absences.specs.Tried.{rowAt, full, skipping, joins, listed, sizesFrom, tried, Found, unitsOf, weighed}
 use Rattle.absences.specs.Laws.Listed.{Ascending, listed-joins, listed-not}
 
 -- a test has one outcome
@@ -45,7 +45,7 @@ module _ (table : Table) (P d t : ℕ) where
   fits A = filling table P d t A .found
 
   abbrev cost : ℕ → ℕ
-  cost A = 1 + filling table P d t A .need
+  cost A = unitsOf (filling table P d t A)
 
   abbrev tries : List ℕ → Found
   tries = weighed table P d t
