@@ -72,7 +72,7 @@ module _ (table : Table) (P : ℕ) where
           (omega (arith, row-next r n u f, ih later .0), ap (rank table P) (row-next r n u f) ∙ ih later .1)
 
   at-rank : (r : ℕ) → r < table .rows → (rowAt table P r < 0 + table .rows) × (rank table P (rowAt table P r) ≡ r)
-  at-rank r l = let v = rank-onto table P r l in found r (table .rows) 0 (v .0) (omega arith) (omega (arith, v .1)) (v .2)
+  at-rank r l = let v = rank-onto table P r l in found _ _ _ (v .0) (omega arith) (omega (arith, v .1)) (v .2)
 
   pub rowAt-lt : (r : ℕ) → r < table .rows → rowAt table P r < table .rows
   rowAt-lt r l = omega (arith, at-rank r l .0)
