@@ -128,6 +128,7 @@ never : {A : Type 0} → _≡_ {A = ℕ} 0 1 → A
 never e = absurd (omega arith)
 
 module _ (way : Way) (table : Table) (P s d t : ℕ) (wide : P < 2 ^ 32) (allowance : ℕ) (r : Reply) (a : PolicyReply way table P s d t allowance r) where
+  -- By the row that the question falls under: there the reply is given, and what is asked of another row cannot be.
   pub policy-exactly : Tells way table P s d t allowance r
   policy-exactly = go (policy-case way table P s d t wide allowance)
     where
@@ -240,7 +241,7 @@ module _ (table : Table) (P s d t : ℕ) (wide : P < 2 ^ 32) where
       → r .verdict ≢ Undecided → q .verdict ≢ Undecided → (r .verdict ≡ q .verdict) × (r .crews ≡ q .crews) × (r .blocker ≡ q .blocker)
   demand-3-same = decided-alike full skipping
 
-  -- "with no more work counted": the first blocker is worth trying, so skipping leaves out only what comes before it, or none blocks
+  -- "with no more work counted": the first blocker is worth trying, so what is skipped before it only costs the other search units
   pub demand-3-need : Admits table P s d t → needPolicy skipping table P s d t ≤ needPolicy full table P s d t
   demand-3-need e =
       thinned-need table P d t (tried-thinned table P s) (tried-ascending full table P s) (λ B st.
