@@ -1,3 +1,4 @@
 pub mod Sets
 pub mod Sums
 pub mod Members
+pub mod Laws
