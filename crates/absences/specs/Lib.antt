@@ -1,3 +1,4 @@
 pub mod Tried
 pub mod Asked
+pub mod Walk
 pub mod Cases
