@@ -1,7 +1,9 @@
 pub mod Rulings
-pub mod More
 pub mod Image
 pub mod Rank
 pub mod Order
 pub mod Lists
 pub mod Swap
+pub mod Limits
+pub mod Same
+pub mod Examples

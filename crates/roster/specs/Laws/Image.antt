@@ -1,15 +1,14 @@
 -- The image of a set under a numbering: the set of the numbers of its members. With the ranks for a numbering it is a set of rows by rank; where
 -- the numbering tells the rows apart, it loses nothing. Assumes nothing.
-use mathlib.Core.Path.{_≡_, refl, sym, ap, _∙_, subst}
-use mathlib.Core.Logic.{_≢_}
+use mathlib.Core.Path.{_≡_, refl, sym, ap, _∙_}
 use Prim.Native.Nat.{ℕ, zero, suc, _+_, _-_, _^_, _≤_, _<_}
 use native.Mathlib.Decide.{decLt, ℕ-discrete}
 use native.Mathlib.Omega.{arith}
 use lib.Pow.{pow-pos, ones-lt}
 use lib.Count.{ones}
-use Rattle.sets.specs.Sets.{bit, Has, Sub, bit-le, bit-none, bit-high, bit-full, sub-eq, with, with-lt, bit-with-same, bit-with-other, ones-with}
+use Rattle.sets.specs.Sets.{bit, Has, bit-le, bit-none, bit-high, bit-full, sub-eq, ones-none, with, with-lt, bit-with-same, bit-with-other, ones-with}
 use Rattle.sets.specs.Sums.{sumTo}
-use Rattle.roster.specs.Laws.More.{ones-sum}
+use Rattle.sets.specs.Laws.Build.{ones-sum}
 
 -- m with x, where the digit is not 0
 unfoldable pub put : ℕ → ℕ → ℕ → ℕ
@@ -50,6 +49,7 @@ has-image f (suc n) A x p = go (bit A n) refl (has-image f n A x) (ℕ-discrete 
     go (suc b) e ih (yes g) q = (n, omega arith, omega (arith, bit-le A n), g)
     go (suc b) e ih (no g) q = up (ih (sym (bit-with-other (image f n A) (f n) x g) ∙ q))
 
+-- where the numbers are below w, it is a set of numbers below w
 pub image-lt : (f : ℕ → ℕ) (w n A : ℕ) → ((i : ℕ) → i < n → f i < w) → image f n A < 2 ^ w
 unfolding image put
 image-lt f w zero A h = pow-pos w
@@ -59,14 +59,10 @@ image-lt f w (suc n) A h = go (bit A n) (image-lt f w n A (λ i l. h i (omega ar
     go zero l = l
     go (suc b) l = with-lt w (image f n A) (f n) l (h n (omega arith))
 
-ones-0 : ones 0 ≡ 0
-unfolding ones
-ones-0 = refl
-
 -- as many numbers as members, where the numbering tells them apart
 image-sum : (f : ℕ → ℕ) (n A : ℕ) → ((u v : ℕ) → u < n → v < n → f u ≡ f v → u ≡ v) → ones (image f n A) ≡ sumTo n (bit A)
 unfolding image put sumTo
-image-sum f zero A inj = ones-0
+image-sum f zero A inj = ones-none
 image-sum f (suc n) A inj = go (bit A n) refl (image-sum f n A (λ u v p q. inj u v (omega arith) (omega arith)))
   where
     new : Dec (bit (image f n A) (f n) ≡ 1) → bit (image f n A) (f n) ≡ 0
@@ -81,6 +77,7 @@ image-sum f (suc n) A inj = go (bit A n) refl (image-sum f n A (λ u v p q. inj 
         omega (arith, ones-with (image f n A) (f n) (new (ℕ-discrete (bit (image f n A) (f n)) 1)), bit-le A n)
 
 module _ (f : ℕ → ℕ) (n : ℕ) (inj : (u v : ℕ) → u < n → v < n → f u ≡ f v → u ≡ v) where
+  -- the image is as large as the set
   pub image-ones : (A : ℕ) → A < 2 ^ n → ones (image f n A) ≡ ones A
   image-ones A h = image-sum f n A inj ∙ sym (ones-sum n A h)
 

@@ -2,14 +2,16 @@
 -- their ranks; of two sets of one size, the ascending list of one is before that of the other where it has the lowest number in which they
 -- differ. Assumes nothing.
 use mathlib.Core.Path.{_≡_, refl, sym, ap, _∙_, subst}
-use mathlib.Core.Logic.{_⊎_, inl, inr, _≢_, _↔_}
-use mathlib.Core.List.{List, [], _∷_}
-use Prim.Native.Nat.{ℕ, zero, suc, _+_, _/_, _%_, _^_, _≤_, _<_, suc-le-suc}
+use mathlib.Core.Logic.{_⊎_, inl, inr, _↔_}
+use mathlib.Core.List.{List, [], _∷_, List·Memᴰ}
+use Prim.Native.Nat.{ℕ, zero, suc, _/_, _%_, _^_, _<_, suc-le-suc}
 use native.Mathlib.Decide.{decLt, ℕ-discrete}
 use native.Mathlib.Omega.{arith}
+use lib.ListN.{length}
 use lib.Count.{ones, ones-step}
-use Rattle.sets.specs.Sets.{bit, Has, bit-le, bit-zero, bit-suc, bit-none, bit-high, bit-below, ones-pos}
+use Rattle.sets.specs.Sets.{bit, Has, bit-le, bit-zero, bit-suc, bit-none, bit-high, bit-below, ones-none, ones-pos}
 use Rattle.sets.specs.Members.{cons?, members}
+use Rattle.sets.specs.Laws.Members.{Ascends, members-ascend, has-of-mem, mem-of-has, length-members}
 use Rattle.roster.specs.declared.Table.{Table}
 use Rattle.roster.specs.Meaning.{rank, Lex, Earlier}
 use Rattle.roster.specs.Laws.Image.{image, image-has, has-image, image-lt, image-ones, image-bit}
@@ -76,12 +78,8 @@ not-low : (a b : ℕ) → a % 2 ≡ 0 → b % 2 ≡ 1 → Low a b → ⊥
 not-low a b p q (zero, r, s, f) = omega (arith, bit-zero a)
 not-low a b p q (suc x, r, s, f) = omega (arith, f 0 (omega arith), bit-zero a, bit-zero b)
 
-ones-0 : ones 0 ≡ 0
-unfolding ones
-ones-0 = refl
-
 pos-of-ones : (a b : ℕ) → ones a ≡ ones b → 0 < a → 0 < b
-pos-of-ones a zero e p = absurd (omega (arith, ones-pos a p, e, ones-0))
+pos-of-ones a zero e p = absurd (omega (arith, ones-pos a p, e, ones-none))
 pos-of-ones a (suc b) e p = omega arith
 
 list-of-low : (k w a b : ℕ) → a < 2 ^ w → b < 2 ^ w → ones a ≡ ones b → Low a b → LexList (members k w a) (members k w b)
@@ -161,20 +159,50 @@ module _ (table : Table) (P : ℕ) where
           same y i e k (yes l) = sym (at A y l) ∙ f (rank table P y) (omega arith) ∙ at B y l
           same y i e k (no l) = bit-high A (table .rows) y hA (omega arith) ∙ sym (bit-high B (table .rows) y hB (omega arith))
 
+  -- ---- `ranks` is what its name says
+
+  -- as a set of ranks a set of rows keeps its bound and its size
+  ranked-lt : (A : ℕ) → ranked A < 2 ^ table .rows
+  ranked-lt A = image-lt (rank table P) (table .rows) (table .rows) A (rank-below table P)
+
+  ranked-ones : (A : ℕ) → A < 2 ^ table .rows → ones (ranked A) ≡ ones A
+  ranked-ones = image-ones (rank table P) (table .rows) (rank-inj table P)
+
+  -- it ascends
+  pub ranks-ascend : (A : ℕ) → Ascends 0 (ranks table P A)
+  unfolding ranks
+  ranks-ascend A = members-ascend 0 (table .rows) (ranked A)
+
+  -- it has the rank of each row of A, and nothing else
+  pub ranks-iff : (A x : ℕ) → A < 2 ^ table .rows → List·Memᴰ x (ranks table P A) ↔ ((v : ℕ) × Has A v × (rank table P v ≡ x))
+  unfolding ranks
+  ranks-iff A x hA = (to, from)
+    where
+      to : List·Memᴰ x (members 0 (table .rows) (ranked A)) → (v : ℕ) × Has A v × (rank table P v ≡ x)
+      to m = let r = has-image (rank table P) (table .rows) A x (has-of-mem (table .rows) (ranked A) x m .1) in (r .0, r .2, r .3)
+
+      from : (v : ℕ) × Has A v × (rank table P v ≡ x) → List·Memᴰ x (members 0 (table .rows) (ranked A))
+      from (v, p, e) =
+          let l : v < table .rows = bit-below A (table .rows) v hA p in
+          mem-of-has (table .rows) (ranked A) x (omega (arith, rank-below table P v l))
+          (subst (λ (z : ℕ). Has (ranked A) z) e (image-has (rank table P) (table .rows) A v l p))
+
+  -- it is as long as A is large
+  pub ranks-length : (A : ℕ) → A < 2 ^ table .rows → length (ranks table P A) ≡ ones A
+  unfolding ranks
+  ranks-length A hA = length-members (table .rows) (ranked A) (ranked-lt A) ∙ ranked-ones A hA
+
+  -- ---- the order by those lists
+
   -- "within a size, by the list of ranks in ascending order, compared from the front": that is `Lex`
   pub lex-iff-ranks : (A B : ℕ) → A < 2 ^ table .rows → B < 2 ^ table .rows → ones A ≡ ones B
       → Lex (rank table P) A B ↔ LexList (ranks table P A) (ranks table P B)
   unfolding ranks
   lex-iff-ranks A B hA hB e =
       let low = lex-low A B hA hB in
-      let lists = list-iff-low 0 (table .rows) (ranked A) (ranked B) (lt A) (lt B) (size A hA ∙ e ∙ sym (size B hB)) in
+      let lists = list-iff-low 0 (table .rows) (ranked A) (ranked B) (ranked-lt A) (ranked-lt B)
+      (ranked-ones A hA ∙ e ∙ sym (ranked-ones B hB)) in
       (λ l. lists .1 (low .0 l), λ l. low .1 (lists .0 l))
-    where
-      lt : (C : ℕ) → ranked C < 2 ^ table .rows
-      lt C = image-lt (rank table P) (table .rows) (table .rows) C (rank-below table P)
-
-      size : (C : ℕ) → C < 2 ^ table .rows → ones (ranked C) ≡ ones C
-      size = image-ones (rank table P) (table .rows) (rank-inj table P)
 
   -- "By size, ...; within a size, by the list of ranks in ascending order, compared from the front.": that is `Earlier`
   pub earlier-iff-ranks : (A B : ℕ) → A < 2 ^ table .rows → B < 2 ^ table .rows

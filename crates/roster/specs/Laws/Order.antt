@@ -1,8 +1,8 @@
 -- The order of absences is a strict total order of the sets of rows, so what is first in it is one. The idea: two sets that differ have a lowest
 -- rank at which they do, and the set that has it comes first. Assumes nothing.
-use mathlib.Core.Path.{_≡_, refl, sym, ap, _∙_, subst}
+use mathlib.Core.Path.{_≡_, sym, ap, _∙_, subst}
 use mathlib.Core.Logic.{_⊎_, inl, inr, _≢_}
-use Prim.Native.Nat.{ℕ, zero, suc, _+_, _^_, _≤_, _<_}
+use Prim.Native.Nat.{ℕ, zero, suc, _^_, _≤_, _<_}
 use native.Mathlib.Decide.{decLt, decLe, ℕ-discrete}
 use native.Mathlib.Omega.{arith}
 use lib.Count.{ones}
@@ -115,6 +115,7 @@ module _ (table : Table) (P : ℕ) where
 
   -- ---- what is first is one
 
+  -- of the sets that are Q, whatever Q is, at most one is the first
   pub first-unique : (Q : ℕ → Type 0) (A B : ℕ) → First table P Q A → First table P Q B → A ≡ B
   first-unique Q A B a b = go (ℕ-discrete A B)
     where

@@ -3,19 +3,18 @@
 -- no crew could hold before. So the first blocker is worth trying; and any blocker leads down to one worth trying, since each trade lowers the
 -- sum of its ranks. Trades keep the size, so all of it goes through for any bound s. Assumes nothing.
 use mathlib.Core.Path.{_≡_, refl, sym, ap, _∙_, subst}
-use mathlib.Core.Logic.{_⊎_, inl, inr, _≢_, _↔_}
+use mathlib.Core.Logic.{inr, _≢_, _↔_}
 use mathlib.Core.List.{List, map}
 use Prim.Native.Nat.{ℕ, zero, suc, _+_, _*_, _^_, _≤_, _<_}
 use native.Mathlib.Decide.{decLe, ℕ-discrete}
 use native.Mathlib.Omega.{arith}
-use lib.ListN.{length, getD, length-map, List·getD-map}
-use lib.Bits.{bitAnd}
+use lib.ListN.{getD, length-map, List·getD-map}
 use lib.Count.{ones}
-use Rattle.sets.specs.Sets.{bit, Has, Sub, Apart, bit-le, bit-none, bit-below, bit-pow-same, bit-pow-other, trade, ones-trade, trade-lt, bit-trade-in, bit-trade-out, bit-trade-other}
+use Rattle.sets.specs.Sets.{bit, Has, Sub, bit-le, bit-none, bit-below, bit-pow-same, bit-pow-other, trade, ones-trade, trade-lt, bit-trade-in, bit-trade-out, bit-trade-other}
 use Rattle.sets.specs.Sums.{sumTo}
+use Rattle.sets.specs.Laws.Sums.{sum-add, sum-one}
 use Rattle.roster.specs.declared.Table.{Table}
-use Rattle.roster.specs.Meaning.{held, Covers, CrewList, Blocks, Absence, Holds, Outweighs, rank, Earlier, Worth, First, FirstBlocker}
-use Rattle.roster.specs.Laws.More.{sum-add, sum-one}
+use Rattle.roster.specs.Meaning.{held, CrewList, Blocks, Absence, Holds, Outweighs, rank, Earlier, Worth, First, FirstBlocker}
 use Rattle.roster.specs.Laws.Rank.{outweighs-rank}
 use Rattle.roster.specs.Laws.Order.{earlier-trans}
 

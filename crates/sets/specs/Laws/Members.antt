@@ -10,9 +10,12 @@ use native.Mathlib.Omega.{arith}
 use lib.ListN.{length}
 use lib.Bits.{bitAnd, bitXor, xor-add-and, xor-zero-r, and-step}
 use lib.Count.{ones, onesIn, trailingZeros, under}
-use Rattle.sets.specs.Sets.{bit, Has, bit-le, bit-zero, bit-suc, bit-and, bit-xor, bit-full, ones-width}
+use Rattle.sets.specs.Mask.{bit, Has}
+use Rattle.sets.specs.Laws.Digits.{bit-le, bit-zero, bit-suc, bit-and, bit-xor, bit-full}
+use Rattle.sets.specs.Laws.Sizes.{ones-width}
 use Rattle.sets.specs.Sums.{toN}
 use Rattle.sets.specs.Members.{cons?, members, filter, hasb, setOf}
+pub use Rattle.sets.specs.Members.{Ascends}
 use Rattle.sets.specs.Laws.Sums.{either, toN-true, toN-false}
 use Rattle.sets.specs.Laws.Tests.{toN-hasb}
 use Rattle.sets.specs.Laws.Build.{setOf-bit}
@@ -80,11 +83,6 @@ pub mem-of-has : (w m i : ℕ) → i < w → Has m i → List·Memᴰ i (members
 mem-of-has w m i l e = subst (λ (x : ℕ). List·Memᴰ x (members 0 w m)) (omega arith) (held 0 w m i l e)
 
 -- ---- in what order
-
--- ascending, and from k on
-abbrev pub Ascends : ℕ → List ℕ → Type 0
-Ascends k [] = Unit
-Ascends k (x ∷ l) = (k ≤ x) × Ascends (suc x) l
 
 ascends-down : (j k : ℕ) (l : List ℕ) → j ≤ k → Ascends k l → Ascends j l
 ascends-down j k [] h a = tt

@@ -3,10 +3,9 @@ use mathlib.Core.Path.{_≡_, ap, _∙_}
 use Prim.Native.Nat.{ℕ, _-_, _^_, _<_}
 use native.Mathlib.Omega.{arith}
 use lib.Bits.{bitAnd, bitXor, and-zero-r, xor-zero-r}
-use Rattle.sets.specs.Sets.{bit, Has, Sub, bit-le, bit-none, bit-and, bit-xor, bit-high, ext-all, lt-of-bits}
-
-abbrev pub missing : ℕ → ℕ → ℕ
-missing P held = bitXor P (bitAnd P held)
+use Rattle.sets.specs.Mask.{bit, Has, Sub}
+pub use Rattle.sets.specs.Mask.{missing}
+use Rattle.sets.specs.Laws.Digits.{bit-le, bit-none, bit-and, bit-xor, bit-high, ext-all, lt-of-bits}
 
 pub bit-missing : (P held i : ℕ) → bit (missing P held) i ≡ bit P i - bit held i
 bit-missing P held i = omega (arith, bit-xor P (bitAnd P held) i, bit-and P held i, bit-le P i, bit-le held i)

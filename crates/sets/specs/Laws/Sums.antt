@@ -6,7 +6,8 @@ use Prim.Native.Nat.{ℕ, zero, suc, _+_, _*_, _^_, _≤_, _<_, zero-le}
 use native.Mathlib.Decide.{ℕ-discrete}
 use native.Mathlib.Omega.{arith}
 use lib.Dec.{T}
-use Rattle.sets.specs.Sets.{bit, bit-pow-same, bit-pow-other}
+use Rattle.sets.specs.Mask.{bit}
+use Rattle.sets.specs.Laws.Digits.{bit-pow-same, bit-pow-other}
 use Rattle.sets.specs.Sums.{sumTo, toN}
 
 -- ---- sums

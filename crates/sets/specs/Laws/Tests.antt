@@ -6,7 +6,8 @@ use native.Mathlib.Omega.{arith}
 use lib.Dec.{eqb}
 use borrow.Author.Tests.{eqb-true, eqb-false, eq-eqb, ne-eqb}
 use mathlib.Core.Logic.{_⊎_, inl, inr, ⊎-elim}
-use Rattle.sets.specs.Sets.{bit, Has, bit-le, bit-high, digit}
+use Rattle.sets.specs.Mask.{bit, Has}
+use Rattle.sets.specs.Laws.Digits.{bit-le, bit-high, digit}
 use Rattle.sets.specs.Sums.{toN}
 use Rattle.sets.specs.Members.{hasb}
 use Rattle.sets.specs.Laws.Sums.{toN-true, toN-false}
