@@ -1,14 +1,15 @@
 -- 01, "Order of absences" and "Units": the absences that each search tries, in order, and what trying them costs. Nothing here is proved:
 -- these are definitions, and they run. That the lists are the right ones is shown in Laws.
-use mathlib.Core.Bool.{Bool, true, false, _&&_, _||_, not}
+use mathlib.Core.Bool.{Bool, true, false}
 use mathlib.Core.List.{List, [], _∷_, _++_}
-use Prim.Native.Nat.{ℕ, zero, suc, _+_, _^_, min}
+use Prim.Native.Nat.{ℕ, zero, suc, _+_, min}
 use lib.Bits.{bitAnd}
-use lib.Dec.{eqb, leb, ltb}
-use Rattle.sets.specs.Members.{hasb, setOf}
+use lib.Dec.{eqb}
+use Rattle.sets.specs.Members.{setOf}
 use Rattle.sets.specs.Sets.{with}
 use Rattle.roster.specs.declared.Table.{Table}
-use Rattle.roster.specs.Meaning.{held, rank}
+use Rattle.roster.specs.Meaning.{rank}
+unfoldable pub use Rattle.roster.specs.Laws.Rank.{outweighsb}
 use Rattle.crews.specs.Filling.{Outcome, filling}
 
 -- the first of the n rows from u on that has rank r
@@ -19,12 +20,6 @@ rowFrom table P r (suc n) u = elim (eqb (rank table P u) r) [ true ↦ u | false
 -- the row of rank r
 abbrev pub rowAt : Table → ℕ → ℕ → ℕ
 rowAt table P r = rowFrom table P r (table .rows) 0
-
--- u outweighs v, as a test
-unfoldable pub outweighsb : Table → ℕ → ℕ → ℕ → Bool
-outweighsb table P u v =
-    eqb (bitAnd (held table P v) (held table P u)) (held table P v)
-    && (not (eqb (held table P u) (held table P v)) || ltb u v)
 
 -- Which rows may be added to an absence: any, or only those whose outweighing rows are all in it already.
 pub data Way : Type 0 where
