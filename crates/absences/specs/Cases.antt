@@ -1,17 +1,15 @@
 use mathlib.Core.Path.{_≡_, refl}
-use mathlib.Core.Bool.{Bool, true, false}
-use mathlib.Core.List.{List, [], _∷_}
-use Prim.Native.Nat.{ℕ}
-use lib.Bits.{bitAnd, bitOr, bitXor}
+use mathlib.Core.Bool.{true, false}
+use mathlib.Core.List.{[], _∷_}
 use lib.Count.{ones, onesIn, trailingZeros}
 use Rattle.sets.specs.Sets.{bit}
 use Rattle.sets.specs.Sums.{sumTo, toN}
 use Rattle.sets.specs.Members.{cons?, members, filter, hasb, setOf}
 use Rattle.roster.specs.declared.Table.{Table}
 use Rattle.roster.specs.Meaning.{ahead, rank}
-use Rattle.crews.specs.Filling.{Outcome, placeOf, closeOf, placedOf, candidates, tryEach, search, filling}
+use Rattle.crews.specs.Filling.{placeOf, closeOf, placedOf, candidates, tryEach, search}
 use Rattle.crews.specs.Cases.{tableH}
-use Rattle.absences.specs.Tried.{rowFrom, outweighsb, Way, full, skipping, joins, listed, sizesFrom, tried, weighed}
+use Rattle.absences.specs.Tried.{rowFrom, outweighsb, full, skipping, joins, listed, sizesFrom, tried, weighed}
 
 abbrev tableM : Table
 tableM = record { holdings = 7 ∷ 25 ∷ 42 ∷ 52 ∷ []; rows = 4 }

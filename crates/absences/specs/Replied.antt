@@ -1,6 +1,6 @@
 -- The reply to a policy question as a definition that runs: `policy-allowed` shows that it is allowed for every input, and `policy-same` that no
 -- other is. Nothing here is proved: these are definitions.
-use mathlib.Core.Bool.{Bool, true, false}
+use mathlib.Core.Bool.{true, false}
 use mathlib.Core.List.{List}
 use Prim.Native.Nat.{ℕ}
 use lib.Dec.{leb}

@@ -10,7 +10,7 @@ use Rattle.sets.specs.Sets.{with}
 use Rattle.roster.specs.declared.Table.{Table}
 use Rattle.roster.specs.Meaning.{rank}
 unfoldable pub use Rattle.roster.specs.Laws.Rank.{outweighsb}
-use Rattle.crews.specs.Filling.{Outcome, filling}
+use Rattle.crews.specs.Filling.{filling}
 
 -- the first of the n rows from u on that has rank r
 unfoldable pub rowFrom : Table → ℕ → ℕ → ℕ → ℕ → ℕ

@@ -3,24 +3,23 @@
 -- been decided before, and F with that row is worth trying exactly if the row joins F; and a set that has the row of rank r comes before one that has
 -- not, where they agree on all lower ranks. One proof serves both searches. Assumes nothing.
 use mathlib.Core.Path.{_≡_, refl, sym, ap, _∙_, subst}
-use mathlib.Core.Logic.{_⊎_, inl, inr, _≢_, _↔_}
-use mathlib.Core.Bool.{Bool, true, false}
-use mathlib.Core.List.{List, [], _∷_, _++_, List·Memᴰ, List·Memᴰ·head, List·Memᴰ·tail, List·Memᴰ·not-nil, List·Memᴰ·eq-of-singleton, List·Memᴰ·append-cases, Memᴰ·append-left, Memᴰ·append-right, List·Memᴰ·cases-cons}
+use mathlib.Core.Logic.{_⊎_, inl, inr, _≢_}
+use mathlib.Core.Bool.{true, false}
+use mathlib.Core.List.{List, [], _∷_, _++_, List·Memᴰ, List·Memᴰ·head, List·Memᴰ·tail, List·Memᴰ·not-nil, List·Memᴰ·eq-of-singleton, List·Memᴰ·append-cases, Memᴰ·append-left, Memᴰ·append-right}
 use Prim.Native.Nat.{ℕ, zero, suc, _+_, _^_, _≤_, _<_, min}
 use native.Mathlib.Decide.{decLt, ℕ-discrete}
 use native.Mathlib.Omega.{arith}
 use lib.Bits.{bitAnd}
 use lib.Count.{ones, ones-le}
-use lib.Dec.{T, eqb}
+use lib.Dec.{T}
 use lib.Pow.{pow-pos}
 use borrow.Author.Tests.{eqb-true, eq-eqb, ne-eqb}
-use Rattle.sets.specs.Sets.{bit, Has, Sub, bit-le, bit-none, bit-high, bit-below, with, with-lt, bit-with-same, bit-with-other, ones-with, ones-none, ext, sub-eq, sub-of-test, test-of-sub}
-use Rattle.sets.specs.Sums.{toN}
+use Rattle.sets.specs.Sets.{bit, Has, bit-le, bit-none, bit-high, with, with-lt, bit-with-same, bit-with-other, ones-with, ones-none, ext, sub-eq, sub-of-test, test-of-sub}
 use Rattle.sets.specs.Members.{setOf}
 use Rattle.sets.specs.Laws.Sums.{either, toN-yes, true-of-toN}
 use Rattle.sets.specs.Laws.Build.{setOf-bit, setOf-high}
 use Rattle.roster.specs.declared.Table.{Table}
-use Rattle.roster.specs.Meaning.{Absence, Outweighs, rank, Lex, Earlier, Worth}
+use Rattle.roster.specs.Meaning.{Absence, Outweighs, rank, Earlier, Worth}
 use Rattle.roster.specs.Laws.Rank.{outweighsb, outweighs-iff, outweighs-rank, rank-below, rank-inj, rank-onto}
 use Rattle.absences.specs.Tried.{rowFrom, rowAt, Way, full, skipping, joins, listed, sizesFrom, tried}
 
@@ -282,13 +281,13 @@ module _ (way : Way) (table : Table) (P : ℕ) where
   list = listed way table P
 
   -- nobody more: F alone
-  none-more : (m r F : ℕ) → list m 0 r F ≡ F ∷ []
+  pub none-more : (m r F : ℕ) → list m 0 r F ≡ F ∷ []
   unfolding listed
   none-more zero r F = refl
   none-more (suc m) r F = refl
 
   -- no row left to take
-  none-left : (k r F : ℕ) → list 0 (suc k) r F ≡ []
+  pub none-left : (k r F : ℕ) → list 0 (suc k) r F ≡ []
   unfolding listed
   none-left k r F = refl
 
