@@ -112,12 +112,12 @@ fn lowest_row(set: u64) -> u32
     u64::trailing_zeros(set)
 }
 
-// The free rows that hold the lowest permission of those missing. Where none is missing there is none to hold it.
-fn candidates(holders: &[u64; 32], missing: u32, free: u64) -> u64
+// The free rows that hold the lowest permission of those missing. Where none is missing there is no such row.
+fn candidates(holders: &[u64], missing: u32, free: u64) -> u64
     ensures { λ r. ⌜ r ≡ bitAnd (at (now (holders .entry)) (trailingZeros 32 missing)) free ⌝ }
 {
     let permission = lowest_permission(missing) as usize;
-    if permission >= 32 {
+    if permission >= holders.len() {
         return 0;
     }
     holders[permission] & free
