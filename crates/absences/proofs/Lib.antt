@@ -1,2 +1,5 @@
 pub mod Weigh
 pub mod Rank
+pub mod Spent
+pub mod Over
+pub mod Absent

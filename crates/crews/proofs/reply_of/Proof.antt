@@ -11,7 +11,7 @@ use Rattle.crews.proofs.reply_of.Tie as tie
 -- the reply where the ending is known
 by-ending : (filled : Filled) {e : Ending} → filled .ending ≡ e
     → _≡_ {A = Reply} (record { verdict = verdictOf e; crews = filled .crews; blocker = 0; units = filled .units })
-      (record { verdict = verdictOf (filled .ending); crews = filled .crews; blocker = 0; units = filled .units })
+    (record { verdict = verdictOf (filled .ending); crews = filled .crews; blocker = 0; units = filled .units })
 by-ending filled h = ap (λ (e : Ending). record { verdict = verdictOf e; crews = filled .crews; blocker = 0; units = filled .units }) (sym h)
 
 enum-told : tie.Need-enum-told
