@@ -109,56 +109,45 @@ module _ (w : Work) (f : Filling) where
 -- ---- one candidate after another
 
 module _ (deeper : Filling → Outcome) (w : Work) (f : Filling) where
-  pub try-hit : (row : ℕ) (rest : List ℕ) → deeper (placedOf w f row) .found ≡ true
-      → tryEach deeper w f (row ∷ rest) ≡ after 1 (deeper (placedOf w f row))
-  unfolding tryEach
-  try-hit row rest e =
-      let here = deeper (placedOf w f row) in
-      rw (e, tryEach) (ap (λ (b : Bool). record { found = b; crews = here .crews; need = 1 + here .need }) e)
-
-  pub try-miss : (row : ℕ) (rest : List ℕ) → deeper (placedOf w f row) .found ≡ false
-      → tryEach deeper w f (row ∷ rest) ≡ after (1 + deeper (placedOf w f row) .need) (tryEach deeper w f rest)
-  unfolding tryEach
-  try-miss row rest e = rw (e, tryEach)
+  -- whether the row's placement leads to a list
+  abbrev leads : ℕ → Bool
+  leads row = deeper (placedOf w f row) .found
 
   -- where one is found, some candidate's placement led to it
   pub try-from : (rows : List ℕ) → tryEach deeper w f rows .found ≡ true
-      → (row : ℕ) × List·Memᴰ row rows × (deeper (placedOf w f row) .found ≡ true) × (tryEach deeper w f rows .crews ≡ deeper (placedOf w f row) .crews)
+      → (row : ℕ) × List·Memᴰ row rows × (leads row ≡ true) × (tryEach deeper w f rows .crews ≡ deeper (placedOf w f row) .crews)
   unfolding tryEach
   try-from [] e = absurd (true≢false (sym e))
   try-from (row ∷ rest) e =
       ⊎-elim
-      (λ h. (row, List·Memᴰ·head refl, h, ap (λ (o : Outcome). o .crews) (try-hit row rest h)))
-      (λ h.
-      let m = try-miss row rest h in
-      let x = try-from rest (sym (ap (λ (o : Outcome). o .found) m) ∙ e) in
-      (x .0, List·Memᴰ·tail (x .1), x .2, ap (λ (o : Outcome). o .crews) m ∙ x .3))
-      (either (deeper (placedOf w f row) .found))
+      (λ (h : leads row ≡ true). (row, List·Memᴰ·head refl, h, rw (h, tryEach)))
+      (λ (h : leads row ≡ false). let x = try-from rest (rw (h, tryEach) at e) in (x .0, List·Memᴰ·tail (x .1), x .2, rw (h, tryEach) (x .3)))
+      (either (leads row))
 
   -- a candidate whose placement leads to a list is not passed over
-  pub try-finds : (row : ℕ) (rows : List ℕ) → List·Memᴰ row rows → deeper (placedOf w f row) .found ≡ true → tryEach deeper w f rows .found ≡ true
+  pub try-finds : (row : ℕ) (rows : List ℕ) → List·Memᴰ row rows → leads row ≡ true → tryEach deeper w f rows .found ≡ true
+  unfolding tryEach
   try-finds row [] m ok = absurd (List·Memᴰ·not-nil m)
   try-finds row (x ∷ rest) m ok =
       ⊎-elim
-      (λ h. ap (λ (o : Outcome). o .found) (try-hit x rest h) ∙ h)
-      (λ h.
-      ap (λ (o : Outcome). o .found) (try-miss x rest h)
-      ∙ ⊎-elim
-      (λ e. absurd (true≢false (sym ok ∙ ap (λ (y : ℕ). deeper (placedOf w f y) .found) e ∙ h)))
+      (λ (h : leads x ≡ true). rw (h, tryEach) h)
+      (λ (h : leads x ≡ false).
+      rw (h, tryEach)
+      (⊎-elim
+      (λ e. absurd (true≢false (sym ok ∙ ap leads e ∙ h)))
       (λ t. try-finds row rest t ok)
-      (List·Memᴰ·cases-cons m))
-      (either (deeper (placedOf w f x) .found))
+      (List·Memᴰ·cases-cons m)))
+      (either (leads x))
 
+  -- where none is found, no crew is given
   pub try-none : (rows : List ℕ) → tryEach deeper w f rows .found ≡ false → tryEach deeper w f rows .crews ≡ noCrews
   unfolding tryEach
   try-none [] e = refl
   try-none (row ∷ rest) e =
       ⊎-elim
-      (λ h. absurd (true≢false (sym h ∙ sym (ap (λ (o : Outcome). o .found) (try-hit row rest h)) ∙ e)))
-      (λ h.
-      let m = try-miss row rest h in
-      ap (λ (o : Outcome). o .crews) m ∙ try-none rest (sym (ap (λ (o : Outcome). o .found) m) ∙ e))
-      (either (deeper (placedOf w f row) .found))
+      (λ (h : leads row ≡ true). absurd (true≢false (sym h ∙ rw (h, tryEach) at e)))
+      (λ (h : leads row ≡ false). rw (h, tryEach) (try-none rest (rw (h, tryEach) at e)))
+      (either (leads row))
 
 -- ---- the search
 
