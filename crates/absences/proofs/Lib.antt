@@ -3,3 +3,4 @@ pub mod Rank
 pub mod Spent
 pub mod Over
 pub mod Absent
+pub mod Turns

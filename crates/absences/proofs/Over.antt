@@ -105,8 +105,8 @@ module _ (table : Table) (P : ℕ) where
           ⊎-elim (o .decided u lu) (λ e. inr (w, h, inr (subst (λ (x : ℕ). Outweighs table P w x) e q))) (next u lu k);
     }
 
-    told : (u : ℕ) → outweighsb table P u v ≡ true → Outweighs table P u v
-    told u e = outweighs-iff table P u v .1 (subst T (sym e) tt)
+    pub outweigher : (u : ℕ) → outweighsb table P u v ≡ true → Outweighs table P u v
+    outweigher u e = outweighs-iff table P u v .1 (subst T (sym e) tt)
 
     -- the row that stands for u among those passed over
     speaks : (u w : ℕ) → (w ≡ u) ⊎ Outweighs table P w u → Outweighs table P u v → Outweighs table P w v
@@ -131,6 +131,6 @@ module _ (table : Table) (P : ℕ) where
     pub joins-kept : (u : ℕ) → Has O u → outweighsb table P u v ≡ true → joins skipping table P F v ≡ false
     joins-kept u h e =
         ⊎-elim
-        (λ t. absurd (o .apart u h (of-joins table P F v skipping t u (o .left u h .0) (told u e))))
+        (λ t. absurd (o .apart u h (of-joins table P F v skipping t u (o .left u h .0) (outweigher u e))))
         (λ f. f)
         (either (joins skipping table P F v))
