@@ -20,7 +20,7 @@ add-fill : tie.Need-add-fill
 add-fill c = search needs
 
 fill-requires : tie.Need-fill-requires
-fill-requires c κs = ?
+fill-requires c κs = search needs
 
 -- what `fill` says
 filled : (c : tie.After-fill) (table : Table)
