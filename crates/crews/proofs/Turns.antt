@@ -1,6 +1,6 @@
 -- The loop of `fill_on`, apart from its code: what is still to be tried is `rest`, and trying it at `units` gives what the whole search gives
 -- at `spent`. Each way through a turn keeps that or ends with the answer. Assumes nothing.
-use mathlib.Core.Path.{_≡_, refl, sym, ap, ap₂, _∙_, subst}
+use mathlib.Core.Path.{_≡_, refl, sym, ap, ap₂, _∙_}
 use mathlib.Core.Logic.{_⊎_, inl, inr, _≢_}
 use mathlib.Core.Bool.{true, false}
 use mathlib.Core.List.{List, _∷_}
@@ -16,9 +16,9 @@ use Rattle.sets.specs.Laws.Drop.{drop-sub, drop-lt, ones-drop}
 use Rattle.sets.specs.Laws.Members.{members-empty, members-least}
 use Rattle.roster.specs.Replies.{noCrews}
 use Rattle.crews.specs.declared.Filling.{Filling}
-use Rattle.crews.specs.declared.Ending.the-variants.{Complete, Exhausted, Undecided}
+use Rattle.crews.specs.declared.Ending.the-variants.{Exhausted, Undecided}
 use Rattle.crews.specs.declared.Filled.{Filled}
-use Rattle.crews.specs.Filling.{Work, Outcome, nothing, crewOf, missingOf, placeOf, closeOf, placedOf, tryEach, search, plainly}
+use Rattle.crews.specs.Filling.{Work, Outcome, crewOf, missingOf, placeOf, closeOf, placedOf, tryEach, search, plainly}
 use Rattle.crews.specs.Filled.{at, filledOf, closedWhere, Ready}
 use Rattle.crews.specs.Laws.Steps as step
 
@@ -79,7 +79,7 @@ module _ (holds holders : List ℕ) (task crews size : ℕ) (f : Filling) (spent
         within = l;
         same =
             ap (filledOf allowance spent)
-            (step.search-open (at holds) (at holders) task crews size f n h ∙ ap (λ (x : ℕ). trying (members 0 64 x)) (sym e));
+            (step.search-tries (at holds) (at holders) task crews size f n h ∙ ap (λ (x : ℕ). trying (members 0 64 x)) (sym e));
       }
 
   module _ (rest units : ℕ) (g : Going rest units) where
@@ -135,11 +135,8 @@ module _ (holds holders : List ℕ) (task crews size : ℕ) (f : Filling) (spent
             ∙ ap (filledOf allowance (units + 1))
             (ap₂ (λ (k : ℕ) (x : Filling). search k rule x) n (sym (step.placed-plainly (at holds) (at holders) task crews size f row)))
 
-        pub complete-here : r .ending ≡ Complete → r ≡ answer
-        complete-here v = step.turn-complete deeper rule f row others allowance units r said v ∙ sym first
-
-        pub undecided-here : r .ending ≡ Undecided → r ≡ answer
-        undecided-here v = step.turn-undecided deeper rule f row others allowance units r said v ∙ sym first
+        pub ended-here : r .ending ≢ Exhausted → r ≡ answer
+        ended-here v = step.turn-ended deeper rule f row others allowance units r said v ∙ sym first
 
         pub exhausted-here : r .ending ≡ Exhausted → Going (bitXor rest bitOf) (r .units)
         exhausted-here v =

@@ -1,24 +1,20 @@
 -- What the functions of this crate answer, in the terms of the definition of filling: the holdings and the holders as the arrays that are
--- lent, the allowance, and the named-absence question. Nothing here is proved: these are definitions, and they run.
+-- lent, the allowance, and the reply. Nothing here is proved: these are definitions, and they run.
 use mathlib.Core.Bool.{Bool, true, false}
 use mathlib.Core.List.{List, [], _∷_}
 use Prim.Native.Nat.{ℕ, zero, suc, _+_, _≤_}
 use lib.Dec.{eqb, leb}
 use lib.ListN.{getD}
-use Rattle.roster.specs.declared.Table.{Table}
-use Rattle.roster.specs.declared.Ruling.{Ruling}
-use Rattle.roster.specs.declared.Ruling.the-variants as ruling
 use Rattle.roster.specs.declared.Verdict.{Verdict}
 use Rattle.roster.specs.declared.Verdict.the-variants as verdict
 use Rattle.roster.specs.declared.Reply.{Reply}
 use Rattle.roster.specs.Limits.{crewLimit}
-use Rattle.roster.specs.Refusals.{namedRuling}
-use Rattle.roster.specs.Replies.{noCrews, replyWith}
+use Rattle.roster.specs.Replies.{noCrews}
 use Rattle.crews.specs.declared.Filling.{Filling}
 use Rattle.crews.specs.declared.Ending.{Ending}
 use Rattle.crews.specs.declared.Ending.the-variants.{Complete, Exhausted, Undecided}
 use Rattle.crews.specs.declared.Filled.{Filled}
-use Rattle.crews.specs.Filling.{Work, Outcome, nothing, missingOf, closeOf, searchFrom, filling}
+use Rattle.crews.specs.Filling.{Work, Outcome, nothing, missingOf, closeOf, searchFrom}
 
 -- f 0, .., f (n - 1)
 unfoldable pub tabulate : ℕ → (ℕ → ℕ) → List ℕ
@@ -34,12 +30,15 @@ abbrev pub endingOf : Bool → Ending
 endingOf true = Complete
 endingOf false = Exhausted
 
+abbrev pub filledWith : Ending → List ℕ → ℕ → Filled
+filledWith ending crews units = record { ending = ending; crews = crews; units = units }
+
 -- what is answered of an outcome where `spent` units are spent already: "undecided, exactly if allowance < need", then units are the allowance
 unfoldable pub filledOf : ℕ → ℕ → Outcome → Filled
 filledOf allowance spent o =
     elim (leb (spent + o .need) allowance) [
-      | true ↦ record { ending = endingOf (o .found); crews = o .crews; units = spent + o .need }
-      | false ↦ record { ending = Undecided; crews = noCrews; units = allowance }
+      | true ↦ filledWith (endingOf (o .found)) (o .crews) (spent + o .need)
+      | false ↦ filledWith Undecided noCrews allowance
     ]
 
 -- the search from these free rows; a reply has no room for more crews than the limit, and none are looked for
@@ -50,7 +49,7 @@ foundFrom w free = elim (leb (w .crews) crewLimit) [ true ↦ searchFrom w free 
 unfoldable pub closedWhere : ℕ → Filling → Filling
 closedWhere task f = elim (eqb (missingOf task f) 0) [ true ↦ closeOf f | false ↦ f ]
 
--- the reply that a filling comes to
+-- the reply to a named absence that a filling comes to: the rows "crews", "none" and "undecided" of the table of replies
 abbrev pub verdictOf : Ending → Verdict
 verdictOf Complete = verdict.Crews
 verdictOf Exhausted = verdict.None
@@ -58,23 +57,6 @@ verdictOf Undecided = verdict.Undecided
 
 abbrev pub repliedOf : Filled → Reply
 repliedOf filled = record { verdict = verdictOf (filled .ending); crews = filled .crews; blocker = 0; units = filled .units }
-
--- the verdict on a named absence
-abbrev pub namedVerdict : ℕ → Outcome → Verdict
-namedVerdict allowance o =
-    elim (leb (o .need) allowance) [
-      | true ↦ elim (o .found) [ true ↦ verdict.Crews | false ↦ verdict.None ]
-      | false ↦ verdict.Undecided
-    ]
-
--- the reply by the ruling: refused, or what the filling comes to
-abbrev pub namedBy : ℕ → Outcome → Ruling → Reply
-namedBy allowance o ruling.Admitted = replyWith (o .crews) 0 (o .need) allowance (namedVerdict allowance o)
-namedBy allowance o (ruling.Refused refusal) = replyWith noCrews 0 0 allowance (verdict.Refused refusal)
-
--- the reply to a named-absence question
-unfoldable pub namedReplyOf : Table → ℕ → ℕ → ℕ → ℕ → ℕ → Reply
-namedReplyOf table P d t A allowance = namedBy allowance (filling table P d t A) (namedRuling (table .rows) P d t A)
 
 -- What filling on from a half-filled state asks: there is room for another crew, and the allowance is not overspent.
 pub record Ready (crews : ℕ) (f : Filling) (spent allowance : ℕ) : Type 0 where

@@ -10,9 +10,12 @@ ghost use mathlib.Core.Path.{_≡_};
 ghost use Prim.Native.Nat.{_-_, _≤_, _<_, _^_};
 ghost use lib.Bits.{bitAnd, bitXor};
 ghost use lib.Count.{ones, trailingZeros};
-ghost use Rattle.sets.specs.Sets.{minus};
-ghost use Rattle.crews.specs.Filling.{missingOf, placeOf, closeOf, begin, search, plainly, holdsOf, holdersOf};
-ghost use Rattle.crews.specs.Filled.{tabulate, at, filledOf, closedWhere, foundFrom, repliedOf, namedReplyOf, Ready};
+ghost use Rattle.roster.specs.Limits.{rowLimit, crewLimit};
+ghost use Rattle.crews.specs.Filling.{placeOf, closeOf, begin, search, plainly, holdsOf, holdersOf};
+ghost use Rattle.crews.specs.Filled.{tabulate, at, filledWith, filledOf, closedWhere, foundFrom, repliedOf, Ready};
+ghost use Rattle.roster.specs.Replies.{noCrews};
+ghost use Rattle.crews.specs.declared.Ending.the-variants.{Complete};
+ghost use Rattle.crews.specs.Named.{NamedReply};
 
 // The half-filled crews: those closed and the one being filled, the rows neither absent nor placed, and what the crew being filled holds.
 pub struct Filling {
@@ -51,7 +54,7 @@ impl Filling {
 
     // The row in the crew being filled, which then holds what the row holds.
     fn place(self, row: usize, holds: u32) -> Filling
-        requires { ⌜ (row < 64) × (self .closed < 8) ⌝ }
+        requires { ⌜ (row < rowLimit) × (self .closed < crewLimit) ⌝ }
         ensures { λ r. ⌜ r ≡ placeOf self row holds ⌝ }
     {
         let at = self.closed;
@@ -67,7 +70,7 @@ impl Filling {
 
     // The next crew begun.
     fn close(self) -> Filling
-        requires { ⌜ self .closed < 8 ⌝ }
+        requires { ⌜ self .closed < crewLimit ⌝ }
         ensures { λ r. ⌜ r ≡ closeOf self ⌝ }
     {
         let crews = self.crews;
@@ -81,7 +84,7 @@ impl Filling {
 
     // The row placed, and the crew closed where it now covers the task.
     fn placed(self, row: usize, holds: u32, task: u32) -> Filling
-        requires { ⌜ (row < 64) × (self .closed < 8) ⌝ }
+        requires { ⌜ (row < rowLimit) × (self .closed < crewLimit) ⌝ }
         ensures { λ r. ⌜ r ≡ closedWhere task (placeOf self row holds) ⌝ }
     {
         let f = self.place(row, holds);
@@ -89,6 +92,31 @@ impl Filling {
             f.close()
         } else {
             f
+        }
+    }
+
+    // The crews as a complete list.
+    fn complete(self, units: u32) -> Filled
+        ensures { λ r. ⌜ r ≡ filledWith Complete (self .crews) units ⌝ }
+    {
+        let crews = self.crews;
+        Filled {
+            ending: Ending::Complete,
+            crews: crews,
+            units: units,
+        }
+    }
+}
+
+impl Filled {
+    // No list, for one reason or the other.
+    fn without_crews(ending: Ending, units: u32) -> Filled
+        ensures { λ r. ⌜ r ≡ filledWith ending noCrews units ⌝ }
+    {
+        Filled {
+            ending: ending,
+            crews: [0; Policy::CREWS],
+            units: units,
         }
     }
 }
@@ -100,23 +128,11 @@ fn missing(task: u32, held: u32) -> u32
     task ^ (task & held)
 }
 
-fn lowest_permission(set: u32) -> u32
-    ensures { λ r. ⌜ r ≡ trailingZeros 32 set ⌝ }
-{
-    u32::trailing_zeros(set)
-}
-
-fn lowest_row(set: u64) -> u32
-    ensures { λ r. ⌜ r ≡ trailingZeros 64 set ⌝ }
-{
-    u64::trailing_zeros(set)
-}
-
 // The free rows that hold the lowest permission of those missing. Where none is missing there is no such row.
 fn candidates(holders: &[u64], missing: u32, free: u64) -> u64
     ensures { λ r. ⌜ r ≡ bitAnd (at (now (holders .entry)) (trailingZeros 32 missing)) free ⌝ }
 {
-    let permission = lowest_permission(missing) as usize;
+    let permission = sets::lowest(missing) as usize;
     if permission >= holders.len() {
         return 0;
     }
@@ -140,59 +156,28 @@ fn fill_on(
     let list = f.crews;
     let closed = f.closed;
     if closed == crews {
-        return Filled {
-            ending: Ending::Complete,
-            crews: list,
-            units: spent,
-        };
+        return f.complete(spent);
     }
     if sets::size(list[closed]) >= size {
-        return Filled {
-            ending: Ending::Exhausted,
-            crews: [0; Policy::CREWS],
-            units: spent,
-        };
+        return Filled::without_crews(Ending::Exhausted, spent);
     }
     let mut rest = candidates(holders, missing(task, f.held), f.free);
     let mut units = spent;
     while rest != 0 {
         if units >= allowance {
-            return Filled {
-                ending: Ending::Undecided,
-                crews: [0; Policy::CREWS],
-                units: allowance,
-            };
+            return Filled::without_crews(Ending::Undecided, allowance);
         }
-        let row = lowest_row(rest) as usize;
+        let row = sets::least(rest) as usize;
         rest = rest ^ (1u64 << row);
-        let filled = fill_on(
-            holds,
-            holders,
-            task,
-            crews,
-            size,
-            f.placed(row, holds[row], task),
-            units + 1,
-            allowance,
-        );
+        let g = f.placed(row, holds[row], task);
+        let filled = fill_on(holds, holders, task, crews, size, g, units + 1, allowance);
         let ending = filled.ending;
-        match ending {
-            Ending::Exhausted => {
-                units = filled.units;
-            }
-            Ending::Complete => {
-                return filled;
-            }
-            Ending::Undecided => {
-                return filled;
-            }
-        }
+        let Ending::Exhausted = ending else {
+            return filled;
+        };
+        units = filled.units;
     }
-    Filled {
-        ending: Ending::Exhausted,
-        crews: [0; Policy::CREWS],
-        units: units,
-    }
+    Filled::without_crews(Ending::Exhausted, units)
 }
 
 // The crews filled from the free rows, where `spent` units are spent already. More crews than a reply has room for are not looked for.
@@ -209,18 +194,10 @@ pub fn fill(
     ensures { λ r. ⌜ r ≡ filledOf allowance spent (foundFrom (plainly (at (now (holds .entry))) (at (now (holders .entry))) task crews size) free) ⌝ }
 {
     if spent > allowance {
-        return Filled {
-            ending: Ending::Undecided,
-            crews: [0; Policy::CREWS],
-            units: allowance,
-        };
+        return Filled::without_crews(Ending::Undecided, allowance);
     }
     if crews > Policy::CREWS {
-        return Filled {
-            ending: Ending::Exhausted,
-            crews: [0; Policy::CREWS],
-            units: spent,
-        };
+        return Filled::without_crews(Ending::Exhausted, spent);
     }
     fill_on(
         holds,
@@ -236,7 +213,7 @@ pub fn fill(
 
 // Each row's holdings within the task. A row past the count holds nothing.
 pub fn holdings_within(table: Table, task: u32) -> [u32; Policy::ROWS]
-    ensures { λ r. ⌜ r ≡ tabulate 64 (holdsOf table task) ⌝ }
+    ensures { λ r. ⌜ r ≡ tabulate rowLimit (holdsOf table task) ⌝ }
 {
     let holdings = table.holdings;
     let rows = table.rows;
@@ -282,7 +259,7 @@ pub fn holders_of(holds: &[u32; Policy::ROWS]) -> [u64; 32]
 
 // The set of all rows. A shift by 64 is no operation.
 fn everyone(rows: usize) -> u64
-    requires { ⌜ rows ≤ 64 ⌝ }
+    requires { ⌜ rows ≤ rowLimit ⌝ }
     ensures { λ r. ⌜ r ≡ 2 ^ rows - 1 ⌝ }
 {
     if rows == Policy::ROWS {
@@ -319,7 +296,7 @@ pub fn ask_named(
     absent: u64,
     allowance: u32,
 ) -> Reply
-    ensures { λ r. ⌜ r ≡ namedReplyOf table task crews size absent allowance ⌝ }
+    ensures { λ r. ⌜ NamedReply table task crews size absent allowance r ⌝ }
 {
     let rows = table.rows;
     match roster::named_ruling(rows, task, crews, size, absent) {

@@ -1,15 +1,12 @@
 -- The arrays that are lent say what the definition's functions say: an array that is filled element by element is the table of a function,
 -- and what is read out of that table is the function, past its end too. Assumes nothing.
 use mathlib.Core.Path.{_≡_, refl, sym, ap, ap₂, _∙_, fun-ext}
-use mathlib.Core.Logic.{_≢_}
-use mathlib.Core.Bool.{Bool, true, false}
-use mathlib.Core.List.{List, [], _∷_}
+use mathlib.Core.Bool.{Bool}
+use mathlib.Core.List.{List}
 use Prim.Native.Nat.{ℕ, zero, suc, _+_, _^_, _≤_, _<_}
-use native.Mathlib.Nat.{lt-of-not-le}
-use native.Mathlib.Decide.{decLe, decLt, ℕ-discrete}
+use native.Mathlib.Decide.{decLt, ℕ-discrete}
 use native.Mathlib.Omega.{arith}
 use lib.Bits.{bitAnd, and-le-r}
-use lib.Dec.{leb}
 use lib.ListN.{length, getD, set, replicate, length-set, length-replicate, getD-replicate, List·getD-eq-default}
 use lib.Pow.{pow-pos}
 use lib.Seq.{ext-getD, getD-set-same, getD-set-other}
@@ -20,8 +17,9 @@ use Rattle.sets.specs.Laws.Sums.{toN-false}
 use Rattle.sets.specs.Laws.Tests.{high-hasb}
 use Rattle.sets.specs.Laws.Build.{setOf-lt, setOf-bit}
 use Rattle.roster.specs.declared.Table.{Table}
-use Rattle.crews.specs.Filling.{Work, plainly, holdsOf, holdersOf, workOf}
-use Rattle.crews.specs.Filled.{tabulate, at}
+use Rattle.crews.specs.Filling.{Work, plainly, holdsOf, holdersOf, workOf, present, filling}
+use Rattle.crews.specs.Filled.{tabulate, at, foundFrom}
+use Rattle.crews.specs.Laws.Steps.{found-few}
 
 -- ---- the table of a function
 
@@ -132,3 +130,11 @@ lent-work table P d t hr hP =
     let e = lent-holds table P hr in
     ap₂ (λ (holds holders : ℕ → ℕ). plainly holds holders P d t) e
     (ap (λ (holds : ℕ → ℕ). at (tabulate 32 (holdersOf holds))) e ∙ lent-holders (holdsOf table P) (λ u. holds-lt table P u hP))
+
+-- and so is the filling from the rows that are not absent
+pub lent-filling : (table : Table) (P d t A : ℕ) → table .rows ≤ 64 → P < 2 ^ 32 → d ≤ 8
+    → foundFrom
+    (plainly (at (tabulate 64 (holdsOf table P))) (at (tabulate 32 (holdersOf (at (tabulate 64 (holdsOf table P)))))) P d t) (present table A)
+    ≡ filling table P d t A
+lent-filling table P d t A hr hP hd =
+    ap (λ (w : Work). foundFrom w (present table A)) (lent-work table P d t hr hP) ∙ found-few (workOf table P d t) (present table A) hd

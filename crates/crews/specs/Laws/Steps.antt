@@ -5,24 +5,23 @@ use mathlib.Core.Logic.{_⊎_, inl, inr, ⊎-elim, _≢_}
 use mathlib.Core.Bool.{Bool, true, false}
 use mathlib.Core.List.{List, [], _∷_}
 use Prim.Native.Nat.{ℕ, zero, suc, _+_, _-_, _≤_, _<_}
-use native.Mathlib.Nat.{add-assoc, add-zero, lt-of-not-le}
-use native.Mathlib.Decide.{decLe, ℕ-discrete}
+use native.Mathlib.Nat.{add-assoc, add-zero}
 use native.Mathlib.Omega.{arith}
 use lib.Bits.{bitAnd, and-zero-r}
 use lib.Count.{ones, trailingZeros}
 use lib.Dec.{eqb, leb}
-use borrow.Author.Tests.{eq-eqb, ne-eqb, le-leb, lt-leb, leb-true, leb-false}
-use Rattle.sets.specs.Sets.{ones-pos}
-use Rattle.sets.specs.Members.{members, filter}
+use borrow.Author.Tests.{le-leb, lt-leb, leb-true, leb-false}
+use Rattle.sets.specs.Sets.{ones-empty}
+use Rattle.sets.specs.Members.{members}
 use Rattle.sets.specs.Laws.Sums.{either}
 use Rattle.sets.specs.Laws.Members.{members-empty, filter-all}
 use Rattle.roster.specs.Replies.{noCrews}
 use Rattle.crews.specs.declared.Filling.{Filling}
-use Rattle.crews.specs.declared.Ending.{Ending}
 use Rattle.crews.specs.declared.Ending.the-variants.{Complete, Exhausted, Undecided}
 use Rattle.crews.specs.declared.Filled.{Filled}
-use Rattle.crews.specs.Filling.{Work, Outcome, nothing, complete, after, crewOf, missingOf, placeOf, placedOf, candidates, tryEach, search, plainly}
-use Rattle.crews.specs.Filled.{endingOf, filledOf, closedWhere}
+use Rattle.crews.specs.Filling.{Work, Outcome, nothing, complete, after, crewOf, missingOf, placeOf, placedOf, candidates, tryEach, search, searchFrom, plainly}
+use Rattle.crews.specs.Filled.{endingOf, filledOf, closedWhere, foundFrom}
+use Rattle.crews.specs.Laws.Search.{search-out, search-open}
 
 -- ---- the allowance
 
@@ -113,13 +112,16 @@ module _ (deeper : Filling → Outcome) (w : Work) (f : Filling) where
       turn-spent l m = let n = try-need in sym (filled-over most spent (tryEach deeper w f (row ∷ rest)) (omega arith))
 
       module _ (r : Filled) (e : r ≡ filledOf most (spent + 1) tried) where
-        pub turn-complete : r .ending ≡ Complete → r ≡ filledOf most spent (tryEach deeper w f (row ∷ rest))
-        turn-complete v = go (judge most (spent + 1) tried r e)
+        -- it is complete or undecided, and so is the whole
+        pub turn-ended : r .ending ≢ Exhausted → r ≡ filledOf most spent (tryEach deeper w f (row ∷ rest))
+        turn-ended v = go (judge most (spent + 1) tried r e)
           where
             go : Judged most (spent + 1) tried r → r ≡ filledOf most spent (tryEach deeper w f (row ∷ rest))
             go (is-complete b x fits) = e ∙ sym (filled-after most spent 1 tried) ∙ ap (filledOf most spent) (sym (try-works b))
-            go (is-exhausted b x u l) = let z : _≡_ {A = ℕ} 0 1 = cc in absurd (omega arith)
-            go (is-over h x) = let z : _≡_ {A = ℕ} 0 1 = cc in absurd (omega arith)
+            go (is-exhausted b x u l) = absurd (v x)
+            go (is-over h x) =
+                let n = try-need in
+                e ∙ filled-over most (spent + 1) tried h ∙ sym (filled-over most spent (tryEach deeper w f (row ∷ rest)) (omega arith))
 
         -- the other candidates, at what it took
         pub turn-exhausted : r .ending ≡ Exhausted
@@ -136,24 +138,7 @@ module _ (deeper : Filling → Outcome) (w : Work) (f : Filling) where
             )
             go (is-over h x) = let z : _≡_ {A = ℕ} 0 1 = cc in absurd (omega arith)
 
-        pub turn-undecided : r .ending ≡ Undecided → r ≡ filledOf most spent (tryEach deeper w f (row ∷ rest))
-        turn-undecided v = go (judge most (spent + 1) tried r e)
-          where
-            go : Judged most (spent + 1) tried r → r ≡ filledOf most spent (tryEach deeper w f (row ∷ rest))
-            go (is-complete b x fits) = let z : _≡_ {A = ℕ} 0 1 = cc in absurd (omega arith)
-            go (is-exhausted b x u l) = let z : _≡_ {A = ℕ} 0 1 = cc in absurd (omega arith)
-            go (is-over h x) =
-                let n = try-need in
-                e ∙ filled-over most (spent + 1) tried h ∙ sym (filled-over most spent (tryEach deeper w f (row ∷ rest)) (omega arith))
-
 -- ---- the search under 01's rule
-
-ones-empty : (m : ℕ) → ones m ≡ 0 → m ≡ 0
-ones-empty m e = go (decLe m 0)
-  where
-    go : Dec (m ≤ 0) → m ≡ 0
-    go (yes l) = omega arith
-    go (no n) = absurd (omega (arith, ones-pos m (lt-of-not-le n)))
 
 module _ (holds holders : ℕ → ℕ) (P d t : ℕ) (f : Filling) where
   abbrev rule : Work
@@ -163,52 +148,43 @@ module _ (holds holders : ℕ → ℕ) (P d t : ℕ) (f : Filling) where
   unfolding placedOf closedWhere
   placed-plainly row = refl
 
-  pub candidates-plainly : candidates rule f ≡ members 0 64 (bitAnd (holders (trailingZeros 32 (missingOf P f))) (f .free))
-  unfolding candidates
-  candidates-plainly = go (either (eqb (crewOf f) 0))
-    where
-      go : (eqb (crewOf f) 0 ≡ true) ⊎ (eqb (crewOf f) 0 ≡ false)
-          → candidates rule f ≡ members 0 64 (bitAnd (holders (trailingZeros 32 (missingOf P f))) (f .free))
-      go (inl e) = rw (e, candidates) (filter-all _)
-      go (inr e) = rw (e, candidates)
-
-  pub search-done : (n : ℕ) → f .closed ≡ d → search n rule f ≡ complete (f .crews)
-  unfolding search
-  search-done zero e = rw (eq-eqb _ _ e, search)
-  search-done (suc n) e = rw (eq-eqb _ _ e, search)
-
-  pub search-full : (n : ℕ) → f .closed ≢ d → t ≤ ones (crewOf f) → search n rule f ≡ nothing
-  unfolding search
-  search-full zero e h = rw (ne-eqb _ _ e, search)
-  search-full (suc n) e h = rw (ne-eqb _ _ e, le-leb _ _ h, search)
-
-  step : (n : ℕ) → f .closed ≢ d → ones (crewOf f) < t → n ≢ 0
-      → search n rule f ≡ tryEach (λ g. search (n - 1) rule g) rule f (candidates rule f)
-  unfolding search
-  step zero e h z = absurd (z refl)
-  step (suc n) e h z =
-      let same : n ≡ suc n - 1 = omega arith in
-      rw (ne-eqb _ _ e, lt-leb _ _ h, search) (ap (λ (k : ℕ). tryEach (λ g. search k rule g) rule f (candidates rule f)) same)
-
-  out : (n : ℕ) → f .closed ≢ d → n ≡ 0 → search n rule f ≡ nothing
-  unfolding search
-  out zero e z = rw (ne-eqb _ _ e, search)
-  out (suc n) e z = absurd (omega arith)
-
+  -- the free rows that hold the lowest permission missing
   abbrev all : ℕ
   all = bitAnd (holders (trailingZeros 32 (missingOf P f))) (f .free)
 
-  -- where no row is free there is none to try
-  pub search-open : f .closed ≢ d → ones (crewOf f) < t
-      → search (ones (f .free)) rule f ≡ tryEach (λ g. search (ones (f .free) - 1) rule g) rule f (members 0 64 all)
-  search-open e h = go (ℕ-discrete (ones (f .free)) 0)
+  pub candidates-plainly : candidates rule f ≡ members 0 64 all
+  unfolding candidates
+  candidates-plainly = go (either (eqb (crewOf f) 0))
     where
-      go : Dec (ones (f .free) ≡ 0)
-          → search (ones (f .free)) rule f ≡ tryEach (λ g. search (ones (f .free) - 1) rule g) rule f (members 0 64 all)
-      go (no n) =
-          step (ones (f .free)) e h n ∙ ap (tryEach (λ g. search (ones (f .free) - 1) rule g) rule f) candidates-plainly
-      go (yes z) =
-          let none : f .free ≡ 0 = ones-empty (f .free) z in
-          let empty : all ≡ 0 = ap (bitAnd (holders (trailingZeros 32 (missingOf P f)))) none ∙ and-zero-r (holders (trailingZeros 32 (missingOf P f))) in
-          out (ones (f .free)) e z ∙ sym (try-none (λ g. search (ones (f .free) - 1) rule g) rule f)
-          ∙ ap (tryEach (λ g. search (ones (f .free) - 1) rule g) rule f) (sym (members-empty 64) ∙ ap (members 0 64) (sym empty))
+      go : (eqb (crewOf f) 0 ≡ true) ⊎ (eqb (crewOf f) 0 ≡ false) → candidates rule f ≡ members 0 64 all
+      go (inl e) = rw (e, candidates) (filter-all _)
+      go (inr e) = rw (e, candidates)
+
+  -- where no row is free there is none to try
+  pub search-tries : f .closed ≢ d → ones (crewOf f) < t
+      → search (ones (f .free)) rule f ≡ tryEach (λ g. search (ones (f .free) - 1) rule g) rule f (members 0 64 all)
+  search-tries e h = go (ones (f .free)) refl
+    where
+      empty : ones (f .free) ≡ 0 → all ≡ 0
+      empty z =
+          ap (bitAnd (holders (trailingZeros 32 (missingOf P f)))) (ones-empty (f .free) z)
+          ∙ and-zero-r (holders (trailingZeros 32 (missingOf P f)))
+
+      go : (n : ℕ) → ones (f .free) ≡ n → search n rule f ≡ tryEach (λ g. search (n - 1) rule g) rule f (members 0 64 all)
+      go zero z =
+          search-out rule f e ∙ sym (try-none (λ g. search (0 - 1) rule g) rule f)
+          ∙ ap (tryEach (λ g. search (0 - 1) rule g) rule f) (sym (members-empty 64) ∙ ap (members 0 64) (sym (empty z)))
+      go (suc n) z =
+          let same : n ≡ suc n - 1 = omega arith in
+          search-open rule f n e h
+          ∙ ap₂ (λ (k : ℕ) (l : List ℕ). tryEach (λ g. search k rule g) rule f l) same candidates-plainly
+
+-- ---- no more crews than a reply has room for
+
+pub found-few : (w : Work) (free : ℕ) → w .crews ≤ 8 → foundFrom w free ≡ searchFrom w free
+unfolding foundFrom
+found-few w free l = rw (le-leb _ _ l, foundFrom)
+
+pub found-many : (w : Work) (free : ℕ) → 8 < w .crews → foundFrom w free ≡ nothing
+unfolding foundFrom
+found-many w free l = rw (lt-leb _ _ l, foundFrom)
