@@ -1,6 +1,6 @@
 -- The reply to a policy question as a definition that runs: `policy-allowed` shows that it is allowed for every input, and `policy-same` that no
 -- other is. Nothing here is proved: these are definitions.
-use mathlib.Core.Bool.{true, false}
+use mathlib.Core.Bool.{Bool, true, false}
 use mathlib.Core.List.{List}
 use Prim.Native.Nat.{ℕ}
 use lib.Dec.{leb}
@@ -16,12 +16,13 @@ use Rattle.crews.specs.Named.{firstList}
 use Rattle.absences.specs.Tried.{Way, tried, Found, weighed}
 
 -- "undecided, exactly if allowance < need"; else no if an absence that was tried blocks, and yes if none does
+abbrev pub judged : (decided blocked : Bool) → Verdict
+judged true true = No
+judged true false = Yes
+judged false blocked = Undecided
+
 abbrev pub verdictOf : Found → ℕ → Verdict
-verdictOf w allowance =
-    elim (leb (w .need) allowance) [
-      | true ↦ elim (w .blocked) [ true ↦ No | false ↦ Yes ]
-      | false ↦ Undecided
-    ]
+verdictOf w allowance = judged (leb (w .need) allowance) (w .blocked)
 
 -- the reply under this ruling, where trying the absences comes to w, and the first list with nobody absent is this one
 abbrev pub repliedBy : Ruling → Found → List ℕ → ℕ → Reply

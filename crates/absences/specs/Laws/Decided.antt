@@ -1,7 +1,7 @@
 -- Each policy question falls under one row of the table "What comes back", by whichever search. The idea: `tried-sound`, `tried-complete` and
 -- `tried-ascending` say what the list is, exactness of the filling that its test is `Blocks`, and the swap (`first-tried`, `first-blocker-worth`,
 -- `none-worth-none`) that leaving out what is not worth trying loses neither the first blocker nor a "yes". Assumes nothing.
-use mathlib.Core.Path.{_≡_, refl, subst}
+use mathlib.Core.Path.{_≡_, refl, ap₂, subst}
 use mathlib.Core.Logic.{_⊎_, inl, inr}
 use mathlib.Core.Bool.{true, false}
 use Prim.Native.Nat.{ℕ, _^_, _≤_, _<_}
@@ -23,7 +23,7 @@ use Rattle.roster.specs.Laws.Rulings.{policy-within}
 use Rattle.crews.specs.Laws.Exact.{Fair, blocks-none, finds-none}
 use Rattle.absences.specs.Tried.{Way, full, skipping, tried, Found, weighed}
 use Rattle.absences.specs.Asked.{Refuses, Admits, needPolicy}
-use Rattle.absences.specs.Replied.{verdictOf}
+use Rattle.absences.specs.Replied.{judged, verdictOf}
 use Rattle.absences.specs.Laws.Listed.{Picked, tried-sound, tried-complete, tried-ascending}
 use Rattle.absences.specs.Laws.Weighed.{clash, all-fit, Stops, stops}
 
@@ -86,14 +86,14 @@ module _ (way : Way) (table : Table) (P s d t : ℕ) (fair : Fair table P d) whe
 -- ---- the verdict of the definition
 
 module _ (w : Found) (allowance : ℕ) where
-  pub verdict-late : allowance < w .need → verdictOf w allowance ≡ Undecided
-  verdict-late l = rw (lt-leb (w .need) allowance l, verdictOf)
-
   pub verdict-no : w .need ≤ allowance → w .blocked ≡ true → verdictOf w allowance ≡ No
-  verdict-no l b = rw (le-leb (w .need) allowance l, verdictOf, b)
+  verdict-no l b = ap₂ judged (le-leb (w .need) allowance l) b
 
   pub verdict-yes : w .need ≤ allowance → w .blocked ≡ false → verdictOf w allowance ≡ Yes
-  verdict-yes l b = rw (le-leb (w .need) allowance l, verdictOf, b)
+  verdict-yes l b = ap₂ judged (le-leb (w .need) allowance l) b
+
+  pub verdict-late : allowance < w .need → verdictOf w allowance ≡ Undecided
+  verdict-late l = ap₂ judged (lt-leb (w .need) allowance l) refl
 
 -- ---- which row of the table "What comes back" a question falls under
 

@@ -3,7 +3,7 @@
 -- been decided before, and F with that row is worth trying exactly if the row joins F; and a set that has the row of rank r comes before one that has
 -- not, where they agree on all lower ranks. One proof serves both searches. Assumes nothing.
 use mathlib.Core.Path.{_≡_, refl, sym, ap, _∙_, subst}
-use mathlib.Core.Logic.{_⊎_, inl, inr, _≢_}
+use mathlib.Core.Logic.{_⊎_, inl, inr, _≢_, _↔_}
 use mathlib.Core.Bool.{true, false}
 use mathlib.Core.List.{List, [], _∷_, _++_, List·Memᴰ, List·Memᴰ·head, List·Memᴰ·tail, List·Memᴰ·not-nil, List·Memᴰ·eq-of-singleton, List·Memᴰ·append-cases, Memᴰ·append-left, Memᴰ·append-right}
 use Prim.Native.Nat.{ℕ, zero, suc, _+_, _^_, _≤_, _<_, min}
@@ -15,13 +15,12 @@ use lib.Dec.{T}
 use lib.Pow.{pow-pos}
 use borrow.Author.Tests.{eqb-true, eq-eqb, ne-eqb}
 use Rattle.sets.specs.Sets.{bit, Has, bit-le, bit-none, bit-high, with, with-lt, bit-with-same, bit-with-other, ones-with, ones-none, ext, sub-eq, sub-of-test, test-of-sub}
-use Rattle.sets.specs.Members.{setOf}
 use Rattle.sets.specs.Laws.Sums.{either, toN-yes, true-of-toN}
 use Rattle.sets.specs.Laws.Build.{setOf-bit, setOf-high}
 use Rattle.roster.specs.declared.Table.{Table}
 use Rattle.roster.specs.Meaning.{Absence, Outweighs, rank, Earlier, Worth}
 use Rattle.roster.specs.Laws.Rank.{outweighsb, outweighs-iff, outweighs-rank, rank-below, rank-inj, rank-onto}
-use Rattle.absences.specs.Tried.{rowFrom, rowAt, Way, full, skipping, joins, listed, sizesFrom, tried}
+use Rattle.absences.specs.Tried.{rowFrom, rowAt, outweighers, Way, full, skipping, joins, listed, sizesFrom, tried}
 
 -- ---- what the lists are held to
 
@@ -72,7 +71,7 @@ module _ (table : Table) (P : ℕ) where
           (omega (arith, row-next r n u f, ih later .0), ap (rank table P) (row-next r n u f) ∙ ih later .1)
 
   at-rank : (r : ℕ) → r < table .rows → (rowAt table P r < 0 + table .rows) × (rank table P (rowAt table P r) ≡ r)
-  at-rank r l = let v = rank-onto table P r l in found r (table .rows) 0 (v .0) (omega arith) (omega (arith, v .1)) (v .2)
+  at-rank r l = let v = rank-onto table P r l in found _ _ _ (v .0) (omega arith) (omega (arith, v .1)) (v .2)
 
   pub rowAt-lt : (r : ℕ) → r < table .rows → rowAt table P r < table .rows
   rowAt-lt r l = omega (arith, at-rank r l .0)
@@ -88,7 +87,7 @@ module _ (table : Table) (P : ℕ) where
 -- ---- what a row that joins needs
 
 -- u has to be absent where v is
-abbrev Must : Way → Table → ℕ → ℕ → ℕ → Type 0
+abbrev pub Must : Way → Table → ℕ → ℕ → ℕ → Type 0
 Must full table P u v = ⊥
 Must skipping table P u v = Outweighs table P u v
 
@@ -107,36 +106,32 @@ must-rank : (way : Way) (table : Table) (P u v : ℕ) → u < table .rows → Mu
 must-rank full table P u v l m = absurd m
 must-rank skipping table P u v l m = outweighs-rank table P u v l m
 
+-- the set of the rows that outweigh v has those, and no others
+pub outweighers-iff : (table : Table) (P u v : ℕ) → u < table .rows → Has (outweighers table P v) u ↔ Outweighs table P u v
+outweighers-iff table P u v l =
+    let here = setOf-bit (table .rows) _ u l in (
+      λ h. outweighs-iff table P u v .1 (subst T (sym (true-of-toN _ (sym here ∙ h))) tt),
+      λ o. here ∙ toN-yes _ (outweighs-iff table P u v .0 o),
+    )
+
 -- a row joins F exactly if all that has to be absent with it is in F
-module _ (table : Table) (P F v : ℕ) where
-  abbrev above : ℕ
-  above = setOf (table .rows) (λ u. outweighsb table P u v)
+pub joins-iff : (way : Way) (table : Table) (P F v : ℕ)
+    → (joins way table P F v ≡ true) ↔ ((u : ℕ) → u < table .rows → Must way table P u v → Has F u)
+unfolding joins
+joins-iff full table P F v = (λ e u l m. absurd m, λ f. refl)
+joins-iff skipping table P F v = (
+  λ e u l m. omega (arith, sub-of-test above F (eqb-true (bitAnd above F) above e) u, outweighers-iff table P u v l .1 m, bit-le F u),
+  λ f. eq-eqb (bitAnd above F) above (test-of-sub above F (λ i. in-F f i (decLt i (table .rows)) (ℕ-discrete (bit above i) 1))),
+)
+  where
+    above : ℕ
+    above = outweighers table P v
 
-  outweigher : (u : ℕ) → u < table .rows → Outweighs table P u v → Has above u
-  outweigher u l o =
-      setOf-bit (table .rows) (λ u. outweighsb table P u v) u l
-      ∙ toN-yes (outweighsb table P u v) (outweighs-iff table P u v .0 o)
-
-  outweighs : (u : ℕ) → u < table .rows → Has above u → Outweighs table P u v
-  outweighs u l h =
-      outweighs-iff table P u v .1 (subst T (sym (true-of-toN (outweighsb table P u v)
-      (sym (setOf-bit (table .rows) (λ u. outweighsb table P u v) u l) ∙ h))) tt)
-
-  pub joins-of : (way : Way) → ((u : ℕ) → u < table .rows → Must way table P u v → Has F u) → joins way table P F v ≡ true
-  unfolding joins
-  joins-of full f = refl
-  joins-of skipping f = eq-eqb (bitAnd above F) above (test-of-sub above F (λ i. go i (decLt i (table .rows)) (ℕ-discrete (bit above i) 1)))
-    where
-      go : (i : ℕ) → Dec (i < table .rows) → Dec (bit above i ≡ 1) → bit above i ≤ bit F i
-      go i (yes l) (yes h) = omega (arith, f i l (outweighs i l h))
-      go i (yes l) (no h) = omega (arith, bit-le above i)
-      go i (no l) d = omega (arith, setOf-high (table .rows) (λ u. outweighsb table P u v) i (omega arith))
-
-  pub of-joins : (way : Way) → joins way table P F v ≡ true → (u : ℕ) → u < table .rows → Must way table P u v → Has F u
-  unfolding joins
-  of-joins full e u l m = absurd m
-  of-joins skipping e u l m =
-      omega (arith, sub-of-test above F (eqb-true (bitAnd above F) above e) u, outweigher u l m, bit-le F u)
+    in-F : ((u : ℕ) → u < table .rows → Outweighs table P u v → Has F u) → (i : ℕ) → Dec (i < table .rows) → Dec (bit above i ≡ 1)
+        → bit above i ≤ bit F i
+    in-F f i (yes l) (yes h) = omega (arith, f i l (outweighers-iff table P i v l .0 h))
+    in-F f i (yes l) (no h) = omega (arith, bit-le above i)
+    in-F f i (no l) d = omega (arith, setOf-high (table .rows) (λ u. outweighsb table P u v) i (omega arith))
 
 -- ---- one step of the list
 
@@ -222,7 +217,7 @@ module _ (way : Way) (table : Table) (P : ℕ) where
         kept′ : (u v : ℕ) → u < n → Has (with F row) v → Must way table P u v → Dec (row ≡ v) → Dec (row ≡ u) → Has (with F row) u
         kept′ u v lu hv m p (yes e) = subst (λ (x : ℕ). Has (with F row) x) e (bit-with-same F row)
         kept′ u v lu hv m (yes e) (no f) =
-            bit-with-other F row u f ∙ of-joins table P F row way j u lu (subst (λ (x : ℕ). Must way table P u x) (sym e) m)
+            bit-with-other F row u f ∙ joins-iff way table P F row .0 j u lu (subst (λ (x : ℕ). Must way table P u x) (sym e) m)
         kept′ u v lu hv m (no g) (no f) = bit-with-other F row u f ∙ s .kept u v lu (sym (bit-with-other F row v g) ∙ hv) m
 
     skip-up : (S : ℕ) → Goal (suc r) F (suc k) S → Goal r F (suc k) S
@@ -256,7 +251,7 @@ module _ (way : Way) (table : Table) (P : ℕ) where
     -- all that has to be absent with the row of rank r has a lower rank, and so is in F already
     joined : (S : ℕ) → Goal r F (suc k) S → bit S row ≡ 1 → joins way table P F row ≡ true
     joined S c z =
-        joins-of table P F row way (λ u lu m.
+        joins-iff way table P F row .1 (λ u lu m.
         sym (c .agree u lu (omega (arith, must-rank way table P u row lu m, rank-rowAt table P r lr))) ∙ c .kept u row lu z m)
 
     -- a set with the row of rank r comes before one without it
@@ -423,14 +418,14 @@ module _ (way : Way) (table : Table) (P : ℕ) where
   -- what is tried is a set of rows, no larger than the smaller of s and the row count; where the search skips, it is worth trying
   pub tried-sound : (s A : ℕ) → List·Memᴰ A (tried way table P s) → Absence table (min s (table .rows)) A × Picked way table P A
   tried-sound s A i =
-      let c = sizes-sound (min s n) 0 A i in
-      (record { rows = c .0; few = omega (arith, c .2) }, of-kept way table P A (c .3))
+      let c = sizes-sound _ _ A i in
+      (record { rows = c .0; few = omega (arith, c .2, ones-le n A (c .0)) }, of-kept way table P A (c .3))
 
   -- every set of at most s rows is tried; where the search skips, every one that is worth trying
   pub tried-complete : (s A : ℕ) → Absence table s A → Picked way table P A → List·Memᴰ A (tried way table P s)
   tried-complete s A a p =
-      sizes-complete (min s n) 0 A (a .rows) (omega arith) (omega (arith, a .few, ones-le n A (a .rows))) (kept-of way table P A p)
+      sizes-complete _ _ A (a .rows) (omega arith) (omega (arith, a .few, ones-le n A (a .rows))) (kept-of way table P A p)
 
   -- each once, in the order of absences
   pub tried-ascending : (s : ℕ) → Ascending table P (tried way table P s)
-  tried-ascending s = sizes-ascending (min s n) 0
+  tried-ascending s = sizes-ascending _ _

@@ -21,12 +21,12 @@ use Rattle.roster.specs.Laws.Rank.{outweighsb}
 use Rattle.roster.specs.Laws.Same.{Agree, same-rank}
 use Rattle.crews.specs.Filling.{Outcome, filling}
 use Rattle.crews.specs.Laws.Same.{same-filling}
-use Rattle.absences.specs.Tried.{rowFrom, rowAt, Way, full, skipping, joins, listed, sizesFrom, tried, Found, weighed}
+use Rattle.absences.specs.Tried.{rowFrom, rowAt, Way, full, skipping, joins, listed, sizesFrom, tried, Found, unitsOf, weighed}
 use Rattle.absences.specs.Asked.{PolicyReply}
 use Rattle.absences.specs.Replied.{repliedBy, policyReplyOf}
 use Rattle.absences.specs.Laws.Listed.{row-here, row-next, rowAt-lt, listed-joins, listed-not, none-more, none-left}
 use Rattle.absences.specs.Laws.Weighed.{dearer, weighed-fits, weighed-blocks}
-use Rattle.absences.specs.Laws.Demands.{policy-same, policy-allowed}
+use Rattle.absences.specs.Laws.Demands.{policy-is}
 
 module _ (table other : Table) (P : ℕ) (same : Agree table other P) where
   same-row : (r n u : ℕ) → u + n ≤ table .rows → rowFrom table P r n u ≡ rowFrom other P r n u
@@ -104,11 +104,11 @@ module _ (table other : Table) (P : ℕ) (same : Agree table other P) where
             → weighed table P d t (A ∷ l) ≡ weighed other P d t (A ∷ l)
         go (inl f) ih =
             weighed-fits table P d t A l f
-            ∙ ap₂ (λ (o : Outcome) (w : Found). dearer (1 + o .need) w) fill ih
+            ∙ ap₂ (λ (o : Outcome) (w : Found). dearer (unitsOf o) w) fill ih
             ∙ sym (weighed-fits other P d t A l (sym (ap Outcome.found fill) ∙ f))
         go (inr f) ih =
             weighed-blocks table P d t A l f
-            ∙ ap {B = Found} (λ (o : Outcome). record { blocked = true; blocker = A; need = 1 + o .need }) fill
+            ∙ ap {B = Found} (λ (o : Outcome). record { blocked = true; blocker = A; need = unitsOf o }) fill
             ∙ sym (weighed-blocks other P d t A l (sym (ap Outcome.found fill) ∙ f))
 
     same-reply : (way : Way) (s allowance : ℕ) → policyReplyOf way table P s d t allowance ≡ policyReplyOf way other P s d t allowance
@@ -122,6 +122,6 @@ module _ (table other : Table) (P : ℕ) (same : Agree table other P) where
 pub policy-agree : (way : Way) (table other : Table) (P s d t allowance : ℕ) → P < 2 ^ 32 → Agree table other P → (r q : Reply)
     → PolicyReply way table P s d t allowance r → PolicyReply way other P s d t allowance q → r ≡ q
 policy-agree way table other P s d t allowance wide same r q a b =
-    policy-same way table P s d t wide allowance r (policyReplyOf way table P s d t allowance) a (policy-allowed way table P s d t wide allowance)
+    policy-is way table P s d t wide allowance r a
     ∙ same-reply table other P same d t way s allowance
-    ∙ policy-same way other P s d t wide allowance (policyReplyOf way other P s d t allowance) q (policy-allowed way other P s d t wide allowance) b
+    ∙ sym (policy-is way other P s d t wide allowance q b)

@@ -13,8 +13,8 @@ use Rattle.sets.specs.Laws.Sums.{either}
 use Rattle.roster.specs.declared.Table.{Table}
 use Rattle.roster.specs.Meaning.{Earlier}
 use Rattle.roster.specs.Laws.Order.{earlier-irrefl}
-use Rattle.crews.specs.Filling.{filling}
-use Rattle.absences.specs.Tried.{rowAt, full, skipping, joins, listed, sizesFrom, tried, Found, weighed}
+use Rattle.crews.specs.Filling.{Outcome, filling}
+use Rattle.absences.specs.Tried.{rowAt, full, skipping, joins, listed, sizesFrom, tried, Found, unitsOf, weighed}
 use Rattle.absences.specs.Laws.Listed.{Ascending, listed-joins, listed-not}
 
 -- a test has one outcome
@@ -40,12 +40,26 @@ then-dearer c w v = go (either (w .blocked))
     go (inl e) = rw e
     go (inr e) = rw e (same-need v ((c + w .need) + v .need) (c + (w .need + v .need)) (omega arith))
 
+-- what one absence more comes to, where the filling comes to o and the rest to w
+abbrev onTop : ℕ → Outcome → Found → Found
+onTop A o w =
+    elim (o .found) [
+      | true ↦ dearer (unitsOf o) w
+      | false ↦ record { blocked = true; blocker = A; need = unitsOf o }
+    ]
+
+on-top-fits : (A : ℕ) (o : Outcome) (w : Found) → o .found ≡ true → onTop A o w ≡ dearer (unitsOf o) w
+on-top-fits A o w e = rw e
+
+on-top-blocks : (A : ℕ) (o : Outcome) (w : Found) → o .found ≡ false → onTop A o w ≡ record { blocked = true; blocker = A; need = unitsOf o }
+on-top-blocks A o w e = rw e
+
 module _ (table : Table) (P d t : ℕ) where
   abbrev fits : ℕ → Bool
   fits A = filling table P d t A .found
 
   abbrev cost : ℕ → ℕ
-  cost A = 1 + filling table P d t A .need
+  cost A = unitsOf (filling table P d t A)
 
   abbrev tries : List ℕ → Found
   tries = weighed table P d t
@@ -54,11 +68,11 @@ module _ (table : Table) (P d t : ℕ) where
 
   pub weighed-fits : (A : ℕ) (l : List ℕ) → fits A ≡ true → tries (A ∷ l) ≡ dearer (cost A) (tries l)
   unfolding weighed
-  weighed-fits A l e = rw (e, weighed)
+  weighed-fits A l e = on-top-fits A (filling table P d t A) (tries l) e
 
   pub weighed-blocks : (A : ℕ) (l : List ℕ) → fits A ≡ false → tries (A ∷ l) ≡ record { blocked = true; blocker = A; need = cost A }
   unfolding weighed
-  weighed-blocks A l e = rw (e, weighed)
+  weighed-blocks A l e = on-top-blocks A (filling table P d t A) (tries l) e
 
   pub weighed-none : tries [] ≡ record { blocked = false; blocker = 0; need = 0 }
   unfolding weighed
