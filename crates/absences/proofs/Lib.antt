@@ -4,3 +4,4 @@ pub mod Spent
 pub mod Over
 pub mod Absent
 pub mod Turns
+pub mod Sizes

@@ -13,7 +13,7 @@ use Rattle.roster.specs.declared.Table.{Table}
 use Rattle.roster.specs.Meaning.{rank, Outweighs}
 use Rattle.roster.specs.Laws.Rank.{rank-inj, outweighsb, outweighs-iff, outweighs-rank, outweighs-trans}
 use Rattle.absences.specs.Tried.{Way, full, skipping, rowAt, joins}
-use Rattle.absences.specs.Laws.Listed.{rowAt-lt, rank-rowAt, joins-of, of-joins}
+use Rattle.absences.specs.Laws.Listed.{rowAt-lt, rank-rowAt, joins-iff}
 use Rattle.absences.specs.Laws.Weighed.{clash}
 use Rattle.absences.specs.Walk.{Over}
 
@@ -122,7 +122,7 @@ module _ (table : Table) (P : ℕ) where
 
     pub joins-free : ((u : ℕ) → Has O u → outweighsb table P u v ≡ false) → joins skipping table P F v ≡ true
     joins-free f =
-        joins-of table P F v skipping (λ u lu q.
+        joins-iff skipping table P F v .1 (λ u lu q.
         ⊎-elim
         (λ h. h)
         (λ w. absurd (clash (test-of (w .0) (speaks u (w .0) (w .2) q)) (f (w .0) (w .1))))
@@ -131,6 +131,6 @@ module _ (table : Table) (P : ℕ) where
     pub joins-kept : (u : ℕ) → Has O u → outweighsb table P u v ≡ true → joins skipping table P F v ≡ false
     joins-kept u h e =
         ⊎-elim
-        (λ t. absurd (o .apart u h (of-joins table P F v skipping t u (o .left u h .0) (outweigher u e))))
+        (λ t. absurd (o .apart u h (joins-iff skipping table P F v .0 t u (o .left u h .0) (outweigher u e))))
         (λ f. f)
         (either (joins skipping table P F v))

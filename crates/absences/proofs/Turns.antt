@@ -20,7 +20,7 @@ use Rattle.absences.specs.declared.Course.the-variants.{Open, Blocked, U
 use Rattle.absences.specs.declared.Walked.{Walked}
 use Rattle.absences.specs.Tried.{Way, full, skipping, rowAt, joins, listed, Found, weighed}
 use Rattle.absences.specs.Walk.{outweighsBy, Within, MayJoin, wayOf, Lent, Ranked, Over, walkedOf, walkedBy, onward}
-use Rattle.absences.specs.Laws.Listed.{rowAt-lt, listed-joins, listed-not}
+use Rattle.absences.specs.Laws.Listed.{rowAt-lt, listed-joins, listed-not, none-more, none-left}
 use Rattle.absences.specs.Laws.Weighed.{andThen, weighed-append, weighed-none, clash}
 use Rattle.absences.proofs.Rank.{outweighs-same}
 use Rattle.absences.proofs.Spent.{openAt, walked-none, turn-open, turn-blocked, turn-undecided}
@@ -32,9 +32,8 @@ with-row m row l = ap (bitOr m) (shl-one 64 row l)
 
 -- with fewer ranks left than rows wanted there is nothing to try
 pub listed-short : (way : Way) (table : Table) (P m k r F : ℕ) → m < k → listed way table P m k r F ≡ []
-unfolding listed
 listed-short way table P m zero r F l = absurd (omega arith)
-listed-short way table P zero (suc k) r F l = refl
+listed-short way table P zero (suc k) r F l = none-left way table P k r F
 listed-short way table P (suc m) (suc k) r F l =
     let without = listed-short way table P m (suc k) (suc r) F (omega arith) in
     ⊎-elim
@@ -166,12 +165,8 @@ turn-ends table s wanted r F units e l h =
 
 -- no row is wanted any more: the absence itself
 pub turn-whole : (table : Table) (s : Search) (wanted r F : ℕ) → wanted ≡ 0 → F ∷ [] ≡ onward table s wanted r F
-unfolding listed
-turn-whole table s wanted r F e = sym (ap (λ (k : ℕ). onward table s k r F) e ∙ go (table .rows - r))
-  where
-    go : (m : ℕ) → listed (wayOf (s .skipping)) table (s .task) m 0 r F ≡ F ∷ []
-    go zero = refl
-    go (suc m) = refl
+turn-whole table s wanted r F e =
+    sym (ap (λ (k : ℕ). onward table s k r F) e ∙ none-more (wayOf (s .skipping)) table (s .task) (table .rows - r) r F)
 
 -- a row of the order is a row
 pub row-lt : (table : Table) (s : Search) (order : List ℕ) → Ranked table s order → (r : ℕ) → r < s .rows → at order r < 64
