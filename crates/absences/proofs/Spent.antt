@@ -70,10 +70,10 @@ judge most spent w r e =
 
 -- ---- two lists one after the other: `r` is what the first comes to
 
-open-blocked : (x : Course) → x ≡ Open → x ≡ Blocked → ⊥
+pub open-blocked : (x : Course) → x ≡ Open → x ≡ Blocked → ⊥
 open-blocked x p q = let z : _≡_ {A = ℕ} 0 1 = cc in omega arith
 
-open-undecided : (x : Course) → x ≡ Open → x ≡ Undecided → ⊥
+pub open-undecided : (x : Course) → x ≡ Open → x ≡ Undecided → ⊥
 open-undecided x p q = let z : _≡_ {A = ℕ} 0 1 = cc in omega arith
 
 blocked-undecided : (x : Course) → x ≡ Blocked → x ≡ Undecided → ⊥

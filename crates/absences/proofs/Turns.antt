@@ -14,15 +14,14 @@ use Rattle.roster.specs.declared.Table.{Table}
 use Rattle.roster.specs.Meaning.{held, rank}
 use Rattle.roster.specs.Laws.Rank.{outweighsb, outweighs-iff}
 use Rattle.crews.specs.Filled.{at}
-use Rattle.crews.specs.Laws.Arrays.{at-tabulate, holds-row}
 use Rattle.absences.specs.declared.Search.{Search}
 use Rattle.absences.specs.declared.Course.the-variants.{Open, Blocked, Undecided}
 use Rattle.absences.specs.declared.Walked.{Walked}
 use Rattle.absences.specs.Tried.{Way, full, skipping, rowAt, joins, listed, Found, weighed}
-use Rattle.absences.specs.Walk.{outweighsBy, Within, MayJoin, wayOf, Lent, Ranked, Over, walkedOf, walkedBy, onward}
+use Rattle.absences.specs.Walk.{outweighsBy, MayJoin, wayOf, Lent, Ranked, Over, walkedOf, walkedBy, onward}
 use Rattle.absences.specs.Laws.Listed.{rowAt-lt, listed-joins, listed-not, none-more, none-left}
 use Rattle.absences.specs.Laws.Weighed.{andThen, weighed-append, weighed-none, clash}
-use Rattle.absences.proofs.Rank.{outweighs-same}
+use Rattle.absences.proofs.Rank.{within-of, outweighs-same}
 use Rattle.absences.proofs.Spent.{openAt, walked-none, turn-open, turn-blocked, turn-undecided}
 use Rattle.absences.proofs.Over.{over-join, over-pass, over-leave, outweigher, joins-full, joins-free, joins-kept}
 
@@ -40,16 +39,6 @@ listed-short way table P (suc m) (suc k) r F l =
     (λ e. listed-joins way table P m k r F e ∙ ap₂ _++_ (listed-short way table P m k (suc r) (with F (rowAt table P r)) (omega arith)) without)
     (λ e. listed-not way table P m k r F e ∙ without)
     (either (joins way table P F (rowAt table P r)))
-
-module _ (table : Table) (s : Search) (holds holders : List ℕ) (lent : Lent table s holds holders) where
-  pub within : Within table (s .task) (s .rows) holds
-  within = record {
-    rows = lent .rows;
-    held = λ u l.
-    ap (λ (h : List ℕ). getD h u 0) (lent .held)
-    ∙ at-tabulate 64 _ u (omega (arith, lent .rows, lent .small))
-    ∙ holds-row table (s .task) u (omega (arith, lent .rows));
-  }
 
 module _ (table : Table) (s : Search) (holds holders order : List ℕ) (lent : Lent table s holds holders) (ranked : Ranked table s order)
     (F O r wanted units : ℕ) (o : Over table (s .task) F O r) (room : wanted ≤ s .rows - r) (some : wanted ≢ 0) where
@@ -70,8 +59,8 @@ module _ (table : Table) (s : Search) (holds holders order : List ℕ) (lent : L
 
   tests : (u : ℕ) → Has O u → outweighsBy (getD holds u 0) u (getD holds row 0) row ≡ outweighsb table P u v
   tests u h =
-      outweighs-same table P (s .rows) holds (within table s holds holders lent) u row (omega (arith, o .left u h .0, lent .rows))
-      (omega (arith, row-is, rowAt-lt table P r inside, lent .rows))
+      outweighs-same table P (table .rows) holds (within-of table P (lent .small) holds (lent .held)) u row (o .left u h .0)
+      (omega (arith, row-is, rowAt-lt table P r inside))
       ∙ ap (outweighsb table P u) row-is
 
   -- the code's test is that of the definition

@@ -151,8 +151,7 @@ module _ (t : ℕ) (k : walk-lts.After-may-join (callees t) (walk-at t) walk.Pos
           → (Over table (S .task) F O' (rank + 1) × (asked ≡ walkedBy table S (r .units) (onward table S wanted (rank + 1) F)))
           × (r .units ≤ S .allowance)
       passed O' q o =
-          let w = turns.turn-none table S holds holders order lent ranked F O rank wanted units (so-far .0) room some _ (k .may-join .ensures) e F' F'-is r with-it o in
-          (
+          let w = turns.turn-none table S holds holders order lent ranked F O rank wanted units (so-far .0) room some _ (k .may-join .ensures) e F' F'-is r with-it o in (
             (turns.over-passed table S holds holders order lent ranked F O rank wanted units (so-far .0) room some O' (q ∙ turns.with-row O row (row-fits t (k .before))), so-far .1 ∙ w .0),
             w .1,
           )
@@ -266,7 +265,7 @@ walk-loop-again t c =
       omega (arith, rank-inside t (k .before .before)),
       rw (w .5) (passed t k (p .0) (p .1) (p .2) (p .3) (w .0 .taken) (w .1 .result) (w .1 .ensures) (c .if3 .over) (w .4) (w .3 .given .1) .1),
       λ table lent ranked over.
-      rw (w .5) (passed t k table lent ranked over (w .0 .taken) (w .1 .result) (w .1 .ensures) (c .if3 .over) (w .4) (w .3 .given .1) .0),
+          rw (w .5) (passed t k table lent ranked over (w .0 .taken) (w .1 .result) (w .1 .ensures) (c .if3 .over) (w .4) (w .3 .given .1) .0),
     ))
     (λ w. (
       omega (arith, rank-inside t (k .before .before)),

@@ -78,11 +78,11 @@ loop-again c =
     let l = k .before .before .loop in
     let lt = k .before .loop-test .taken in
     let none : (table : Table) → Lent table (a .search) (now (a .holds)) (now (a .holders)) → Ranked table (a .search) (now (a .order))
-        → (walkedBy table (a .search) (l .units) (sized table (a .search) ((a .most + 1) - l .size) (l .size))
-        ≡ walkedBy table (a .search) (k .walk .result .units) (sized table (a .search) ((a .most + 1) - (l .size + 1)) (l .size + 1)))
-        × (k .walk .result .units ≤ a .search .allowance) =
-        λ table lent ranked.
-        size-none table (a .search) (a .most) (l .size) (l .units) lt (k .walk .result) (walked k table lent ranked) (c .enum-told .given .1) in
+    → (walkedBy table (a .search) (l .units) (sized table (a .search) ((a .most + 1) - l .size) (l .size))
+    ≡ walkedBy table (a .search) (k .walk .result .units) (sized table (a .search) ((a .most + 1) - (l .size + 1)) (l .size + 1)))
+    × (k .walk .result .units ≤ a .search .allowance) =
+    λ table lent ranked.
+    size-none table (a .search) (a .most) (l .size) (l .units) lt (k .walk .result) (walked k table lent ranked) (c .enum-told .given .1) in
     (omega (arith, lt), none (p .0) (p .1) (p .2) .1, λ table lent ranked. l .inv .2 table lent ranked ∙ none table lent ranked .0)
 
 returns-3 : tie.Need-returns-3 Inv-loop μ-loop
