@@ -117,7 +117,7 @@ module _ (t : ℕ) (k : walk-lts.After-may-join (callees t) (walk-at t) walk.Pos
   row = at order (f .next)
 
   room : wanted ≤ S .rows - f .next
-  room = k .before .before .if2 .taken
+  room = omega (arith, k .before .before .if2 .taken)
 
   some : wanted ≢ 0
   some = k .before .before .before .before .before .before .if1 .left
