@@ -1,18 +1,18 @@
 -- The ranks are decided one by one. A row may join what is absent exactly if no row passed over outweighs it: of two rows passed over where one
 -- outweighs the other, the first speaks for both, since outweighing goes on. Assumes nothing.
 use mathlib.Core.Path.{_≡_, refl, sym, ap, _∙_, subst}
-use mathlib.Core.Logic.{_⊎_, inl, inr, ⊎-elim, _≢_}
-use mathlib.Core.Bool.{Bool, true, false}
-use Prim.Native.Nat.{ℕ, zero, suc, _+_, _^_, _≤_, _<_}
+use mathlib.Core.Logic.{_⊎_, inl, inr, ⊎-elim}
+use mathlib.Core.Bool.{true, false}
+use Prim.Native.Nat.{ℕ, _+_, _<_}
 use native.Mathlib.Decide.{ℕ-discrete}
 use native.Mathlib.Omega.{arith}
 use lib.Dec.{T}
-use Rattle.sets.specs.Sets.{bit, Has, with, bit-none, bit-with-same, bit-with-other}
+use Rattle.sets.specs.Sets.{Has, with, bit-none, bit-with-same, bit-with-other}
 use Rattle.sets.specs.Laws.Sums.{either}
 use Rattle.roster.specs.declared.Table.{Table}
 use Rattle.roster.specs.Meaning.{rank, Outweighs}
 use Rattle.roster.specs.Laws.Rank.{rank-inj, outweighsb, outweighs-iff, outweighs-rank, outweighs-trans}
-use Rattle.absences.specs.Tried.{Way, full, skipping, rowAt, joins}
+use Rattle.absences.specs.Tried.{full, skipping, rowAt, joins}
 use Rattle.absences.specs.Laws.Listed.{rowAt-lt, rank-rowAt, joins-iff}
 use Rattle.absences.specs.Laws.Weighed.{clash}
 use Rattle.absences.specs.declared.Prefix.{Prefix}

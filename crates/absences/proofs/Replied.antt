@@ -1,12 +1,10 @@
 -- The reply is that of the whole list of absences: nobody absent first, then the sizes from 1 on. Assumes nothing.
 use mathlib.Core.Path.{_≡_, refl, sym, ap, ap₂, _∙_}
-use mathlib.Core.Bool.{Bool, true, false}
 use mathlib.Core.Logic.{_≢_}
-use mathlib.Core.List.{List, [], _∷_, _++_}
-use Prim.Native.Nat.{ℕ, _+_, _-_, _^_, _≤_, _<_}
+use mathlib.Core.List.{List, [], _∷_}
+use Prim.Native.Nat.{ℕ, _+_, _≤_}
 use native.Mathlib.Nat.{zero-add}
 use native.Mathlib.Omega.{arith}
-use lib.Bits.{bitAnd, and-mask}
 use Rattle.roster.specs.declared.Table.{Table}
 use Rattle.roster.specs.declared.Reply.{Reply}
 use Rattle.roster.specs.declared.Ruling.{Ruling}

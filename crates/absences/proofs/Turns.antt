@@ -17,7 +17,7 @@ use Rattle.absences.specs.declared.Search.{Search}
 use Rattle.absences.specs.declared.Course.the-variants.{Open}
 use Rattle.absences.specs.declared.Prefix.{Prefix}
 use Rattle.absences.specs.declared.Walked.{Walked}
-use Rattle.absences.specs.Tried.{Way, full, skipping, rowAt, joins, listed, Found, weighed}
+use Rattle.absences.specs.Tried.{Way, skipping, rowAt, joins, listed, Found, weighed}
 use Rattle.absences.specs.Walk.{outweighsBy, MayJoin, wayOf, Lent, Ranked, takenBy, passedBy, leftBy, Stands, walkedOf, walkedBy, onward}
 use Rattle.absences.specs.Laws.Listed.{rowAt-lt, listed-joins, listed-not, none-more, none-left}
 use Rattle.absences.specs.Laws.Weighed.{andThen, weighed-append, weighed-none}
