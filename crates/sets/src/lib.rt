@@ -1,6 +1,7 @@
 // A mask is a set: bit i of the mask says whether i is a member. What these functions give is told in specs/Mask.antt and specs/Members.antt,
 // and the laws of it in specs/Laws/.
 ghost use mathlib.Core.Path.{_≡_};
+ghost use Prim.Native.Nat.{_-_, _^_, min};
 ghost use lib.Count.{ones, trailingZeros};
 ghost use Rattle.sets.specs.Mask.{subb, apartb};
 ghost use Rattle.sets.specs.Members.{hasb};
@@ -45,4 +46,14 @@ pub fn has(set: u64, i: u32) -> bool
     ensures { λ r. ⌜ r ≡ hasb set i ⌝ }
 {
     if i < 64 { (set >> i) & 1 == 1 } else { false }
+}
+
+// The set of all numbers below n, as far as the width goes. A shift by the width would be an error.
+pub fn below(n: usize) -> u64
+    ensures { λ r. ⌜ r ≡ 2 ^ min n 64 - 1 ⌝ }
+{
+    if n >= 64 {
+        return !0u64;
+    }
+    (1u64 << n) - 1
 }
