@@ -93,7 +93,7 @@ fill-on-returns-2 t c =
     let s = s0 .args in
     c .without-crews .ensures
     ∙ step.says-exhausted (s .allowance) (s .spent) _
-    (search-full (plainly (at (s .holds .now)) (at (s .holders .now)) (s .task) (s .crews) (s .size)) (s .f) (ones (s .f .free)) (c .before .before .before .if1 .left) (rw (c .before .before .size .ensures) at (c .before .if2 .taken)))
+    (search-full (plainly (at (s .holds .now)) (at (s .holders .now)) (s .task) (s .crews) (s .size)) (s .f) (ones (s .f .free)) (c .before .before .before .if1 .left) (omega (arith, c .before .before .size .ensures, c .before .if2 .taken)))
     (s0 .pre .1 .within)
 
 fill-on-missing-requires : (t : ℕ) → fill-on-lts.Need-missing-requires (callees t) (fill-on-at t) fill-on.Post fill-on-Inv-loop fill-on-μ-loop
@@ -108,7 +108,8 @@ fill-on-loop-holds t c =
     let s = s0 .args in
     turn.begun (s .holds .now) (s .holders .now) (s .task) (s .crews) (s .size) (s .f) (s .spent) (s .allowance) (c .candidates .result)
     (c .candidates .ensures ∙ ap (λ (m : ℕ). bitAnd (at (s .holders .now) (trailingZeros 32 m)) (s .f .free)) (c .before .missing .ensures))
-    (c .candidates .ok) (s0 .pre .1 .within) (c .before .before .before .before .before .if1 .left) (rw (c .before .before .before .before .size .ensures) at (c .before .before .before .if2 .left))
+    (c .candidates .ok) (s0 .pre .1 .within) (c .before .before .before .before .before .if1 .left)
+    (omega (arith, c .before .before .before .before .size .ensures, c .before .before .before .if2 .left))
 
 fill-on-without-crews-requires-2 : (t : ℕ) → fill-on-lts.Need-without-crews-requires-2 (callees t) (fill-on-at t) fill-on.Post fill-on-Inv-loop fill-on-μ-loop
 fill-on-without-crews-requires-2 t c κs = search needs
@@ -119,7 +120,8 @@ fill-on-returns-3 t c =
     let s = top .before .before .before .before .before .before .before .before .args in
     let l = top .loop in
     c .without-crews2 .ensures
-    ∙ turn.spent-out (s .holds .now) (s .holders .now) (s .task) (s .crews) (s .size) (s .f) (s .spent) (s .allowance) (l .rest) (l .units) (l .inv) (trailingZeros 64 (l .rest)) refl (c .before .before .loop-test .taken) (c .before .if3 .taken)
+    ∙ turn.spent-out (s .holds .now) (s .holders .now) (s .task) (s .crews) (s .size) (s .f) (s .spent) (s .allowance) (l .rest) (l .units) (l .inv) (trailingZeros 64 (l .rest)) refl (c .before .before .loop-test .taken)
+    (omega (arith, c .before .if3 .taken))
 
 fill-on-least-requires : (t : ℕ) → fill-on-lts.Need-least-requires (callees t) (fill-on-at t) fill-on.Post fill-on-Inv-loop fill-on-μ-loop
 fill-on-least-requires t c κs = search needs
