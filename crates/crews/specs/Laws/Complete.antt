@@ -1,28 +1,24 @@
 -- Where there are crews to be had from the free rows, the search finds some. It is kept on the way to a solution T: the crew being filled is
 -- part of T's, and what is left of T's crews is free. T's crew has a row that holds the lowest missing permission; that row is a
 -- candidate, and with it placed the search is on the way still. A crew that covers sooner than T's leaves rows over. Assumes nothing.
-use mathlib.Core.Path.{_≡_, refl, sym, ap, _∙_, subst}
-use mathlib.Core.Bool.{Bool, true, false, true≢false}
+use mathlib.Core.Path.{_≡_, sym, ap, _∙_}
+use mathlib.Core.Bool.{true, false, true≢false}
 use mathlib.Core.Logic.{_⊎_, inl, inr, ⊎-elim, _≢_}
-use mathlib.Core.List.{List}
-use Prim.Native.Nat.{ℕ, zero, suc, _+_, _-_, _^_, _≤_, _<_}
+use Prim.Native.Nat.{ℕ, zero, suc, _+_, _^_, _≤_, _<_}
 use native.Mathlib.Decide.{ℕ-discrete}
-use native.Mathlib.Nat.{eq-zero-or-pos}
 use native.Mathlib.Omega.{arith}
-use lib.Bits.{bitAnd, bitOr, bitXor}
-use lib.Count.{ones, trailingZeros}
+use lib.Bits.{bitXor}
+use lib.Count.{ones}
 use lib.Dec.{eqb}
-use lib.ListN.{length, getD}
 use borrow.Author.Tests.{eqb-true, eqb-false}
-use Rattle.sets.specs.Sets.{bit, Has, Sub, with, missing, Least, bit-le, bit-none, bit-below, digit, or-in, or-in-l, or-in-r, pow-in, trailing-least}
+use Rattle.sets.specs.Sets.{bit, Has, Sub, with, bit-none, bit-below, digit, or-in, or-in-l, or-in-r, pow-in, trailing-least}
 use Rattle.sets.specs.Sets.{sub-of-has, sub-lt, has-of-sub, missing-lt, missing-in, missing-all, ones-with, ones-sub, ones-drop, bit-drop-other, drop-sub, bit-with-same}
 use Rattle.sets.specs.Laws.Sums.{either}
 use Rattle.roster.specs.Limits.{rowLimit, crewLimit}
-use Rattle.roster.specs.Replies.{noCrews}
 use Rattle.crews.specs.declared.Filling.{Filling}
-use Rattle.crews.specs.Filling.{Work, Outcome, crewOf, missingOf, placeOf, closeOf, placedOf, candidates, tryEach, search, begin}
-use Rattle.crews.specs.Laws.Search.{lowestOf, putOf, placed-is, Candidate, Tried, among, try-finds, search-done, search-open}
-use Rattle.crews.specs.Laws.Sound.{crew, Shape, Held, here, none-at, shape-put, shape-close, shape-begin, unfinished}
+use Rattle.crews.specs.Filling.{Work, Outcome, crewOf, missingOf, placeOf, closeOf, candidates, search, begin}
+use Rattle.crews.specs.Laws.Search.{lowestOf, putOf, placed-is, Tried, among, try-finds, search-done, search-open}
+use Rattle.crews.specs.Laws.Sound.{crew, Shape, Held, here, shape-put, shape-close, shape-begin, unfinished}
 
 pub same-or-not : (m n : ℕ) → (m ≡ n) ⊎ (m ≢ n)
 same-or-not m n = ⊎-elim (λ e. inl (eqb-true m n e)) (λ e. inr (eqb-false m n e)) (either (eqb m n))

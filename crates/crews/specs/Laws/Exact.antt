@@ -1,28 +1,27 @@
 -- Filling finds a crew list exactly if one exists, and what it finds is one: `sound` and `complete` at 01's rule, over a table. So each
 -- absence either has a list or blocks, and where the policy holds each absence has one. Assumes nothing.
 use mathlib.Core.Path.{_≡_, refl, sym, ap, _∙_}
-use mathlib.Core.Bool.{Bool, true, false, true≢false}
+use mathlib.Core.Bool.{true, false, true≢false}
 use mathlib.Core.Logic.{_⊎_, inl, inr, ⊎-elim, _≢_, _↔_}
 use mathlib.Core.List.{List}
 use Prim.Native.Nat.{ℕ, _-_, _^_, _≤_, _<_}
 use native.Mathlib.Nat.{lt-of-lt-of-le}
 use native.Mathlib.Omega.{arith}
 use lib.Count.{ones}
-use lib.Dec.{leb}
 use lib.ListN.{length, getD, take}
 use lib.Pow.{pow-mono, pow-pos}
 use borrow.Author.Tests.{lt-leb}
-use Rattle.sets.specs.Sets.{bit, Has, Sub, minus, bit-le, bit-below, minus-sub, sub-lt}
-use Rattle.sets.specs.Members.{hasb, setOf}
+use Rattle.sets.specs.Sets.{bit, Has, bit-below, minus-sub, sub-lt}
+use Rattle.sets.specs.Members.{hasb}
 use Rattle.sets.specs.Laws.Sums.{either}
 use Rattle.sets.specs.Laws.Tests.{toN-hasb}
 use Rattle.sets.specs.Laws.Build.{setOf-bit}
 use Rattle.roster.specs.declared.Table.{Table}
 use Rattle.roster.specs.Limits.{rowLimit, crewLimit}
-use Rattle.roster.specs.Meaning.{held, Covers, CrewList, Blocks, Absence, Holds}
-use Rattle.crews.specs.Filling.{Work, Outcome, holdsOf, workOf, present, filling}
+use Rattle.roster.specs.Meaning.{CrewList, Blocks, Absence, Holds}
+use Rattle.crews.specs.Filling.{holdsOf, workOf, present, filling}
 use Rattle.crews.specs.Laws.Sound.{Agrees, present-in, in-present, sound, eight}
-use Rattle.crews.specs.Laws.Complete.{Plain, Ready, Solves, same-or-not, complete}
+use Rattle.crews.specs.Laws.Complete.{Ready, Solves, same-or-not, complete}
 
 -- what an admitted question has of what exactness needs
 pub record Fair (table : Table) (P d : ℕ) : Type 0 where
@@ -78,7 +77,7 @@ module _ (table : Table) (P d : ℕ) (fair : Fair table P d) (t A : ℕ) where
 module _ {table : Table} {P d : ℕ} (fair : Fair table P d) (t A : ℕ) where
   -- what it finds is a crew list
   pub finds-list : filling table P d t A .found ≡ true → CrewList table P d t A (take d (filling table P d t A .crews))
-  finds-list = sound table (fair .rows) A (workOf table P d t) (fair .few) (work-agrees table P d t (fair .rows)) (ones (present table A))
+  finds-list = sound table (fair .rows) A (workOf table P d t) (fair .few) (work-agrees table P d t (fair .rows)) _
 
   -- where A blocks it finds none
   pub blocks-none : Blocks table P d t A → filling table P d t A .found ≡ false
@@ -113,7 +112,7 @@ holds-all fair s t h A a = ⊎-elim (λ x. x) (λ b. absurd (h A a b)) (decide f
 -- ---- "Crews are eight sets; those past d are 0."
 
 pub crews-eight : (table : Table) (P d t A : ℕ) → length (filling table P d t A .crews) ≡ crewLimit
-crews-eight table P d t A = eight (ones (present table A)) (workOf table P d t) (present table A) .many
+crews-eight table P d t A = eight _ (workOf table P d t) (present table A) .many
 
 pub crews-past : (table : Table) (P d t A j : ℕ) → d ≤ j → getD (filling table P d t A .crews) j 0 ≡ 0
-crews-past table P d t A j h = eight (ones (present table A)) (workOf table P d t) (present table A) .past j h
+crews-past table P d t A j h = eight _ (workOf table P d t) (present table A) .past j h

@@ -4,22 +4,21 @@ use mathlib.Core.Path.{_≡_, refl, sym, ap, _∙_, subst}
 use mathlib.Core.Bool.{Bool, true, false, true≢false}
 use mathlib.Core.Logic.{_⊎_, inl, inr, ⊎-elim, _≢_}
 use mathlib.Core.List.{List, [], _∷_, List·Memᴰ, List·Memᴰ·head, List·Memᴰ·tail, List·Memᴰ·cases-cons, List·Memᴰ·not-nil}
-use Prim.Native.Nat.{ℕ, zero, suc, _+_, _≤_, _<_}
+use Prim.Native.Nat.{ℕ, zero, suc, _≤_, _<_}
 use native.Mathlib.Omega.{arith}
 use lib.Bits.{bitAnd}
 use lib.Count.{ones, trailingZeros}
 use lib.Dec.{eqb, leb}
 use borrow.Author.Tests.{eq-eqb, ne-eqb, le-leb, lt-leb, eqb-true, eqb-false, leb-true, leb-false}
 use Rattle.sets.specs.Sets.{Has, and-in, in-and}
-use Rattle.sets.specs.Sums.{toN}
-use Rattle.sets.specs.Members.{members, filter, setOf}
+use Rattle.sets.specs.Members.{members, setOf}
 use Rattle.sets.specs.Laws.Sums.{either, toN-true}
 use Rattle.sets.specs.Laws.Build.{setOf-bit}
 use Rattle.sets.specs.Laws.Members.{has-of-mem, mem-of-has, filter-members}
 use Rattle.roster.specs.Limits.{rowLimit}
 use Rattle.roster.specs.Replies.{noCrews}
 use Rattle.crews.specs.declared.Filling.{Filling}
-use Rattle.crews.specs.Filling.{Work, Outcome, nothing, complete, after, crewOf, missingOf, placeOf, closeOf, placedOf, candidates, tryEach, search}
+use Rattle.crews.specs.Filling.{Work, Outcome, nothing, complete, crewOf, missingOf, placeOf, closeOf, placedOf, candidates, tryEach, search}
 
 -- the lowest permission of P not yet held by the crew being filled
 abbrev pub lowestOf : Work → Filling → ℕ

@@ -1,7 +1,7 @@
 -- What the search ends with is a crew list, whichever rows may begin a crew and whenever one that covers may close; and the crews are eight
 -- sets of which those past d are 0. Each is an invariant of a placement (`search-keeps`). Assumes nothing.
 use mathlib.Core.Path.{_≡_, refl, sym, ap, _∙_, subst}
-use mathlib.Core.Bool.{Bool, true, false}
+use mathlib.Core.Bool.{true}
 use mathlib.Core.Logic.{_⊎_, inl, inr, ⊎-elim, _≢_}
 use mathlib.Core.List.{List}
 use Prim.Native.Nat.{ℕ, zero, suc, _+_, _-_, _^_, _≤_, _<_}
@@ -10,10 +10,10 @@ use native.Mathlib.Nat.{lt-of-lt-of-le}
 use native.Mathlib.Omega.{arith}
 use lib.Bits.{bitOr, bitXor}
 use lib.Count.{ones}
-use lib.ListN.{length, getD, set, take, length-set}
+use lib.ListN.{length, getD, take, replicate, length-set}
 use lib.Pow.{pow-mono, pow-pos}
 use lib.Seq.{getD-set-same, getD-set-other, getD-take, length-take-le}
-use Rattle.sets.specs.Sets.{bit, Has, Sub, Apart, with, minus, bit-le, bit-none, bit-high, bit-below, bit-and, bit-minus, bit-full, digit, or-in, or-in-l, or-in-r, pow-in, bit-pow-same, bit-with-same}
+use Rattle.sets.specs.Sets.{bit, Has, Sub, Apart, with, bit-le, bit-none, bit-below, bit-and, bit-minus, bit-full, digit, or-in, or-in-l, pow-in, bit-with-same}
 use Rattle.sets.specs.Sets.{lt-of-bits, ones-none, ones-with, apart-of-has, sub-of-missing, has-of-sub, bit-drop-same, drop-sub}
 use Rattle.sets.specs.Laws.Sums.{either}
 use Rattle.roster.specs.declared.Table.{Table}
@@ -21,8 +21,8 @@ use Rattle.roster.specs.Limits.{rowLimit, crewLimit}
 use Rattle.roster.specs.Meaning.{held, Covers, CrewList}
 use Rattle.roster.specs.Replies.{noCrews}
 use Rattle.crews.specs.declared.Filling.{Filling}
-use Rattle.crews.specs.Filling.{Work, Outcome, crewOf, missingOf, placeOf, closeOf, placedOf, search, begin, searchFrom, present}
-use Rattle.crews.specs.Laws.Search.{putOf, placed-is, Candidate, Tried, search-none, search-keeps}
+use Rattle.crews.specs.Filling.{Work, crewOf, missingOf, placeOf, closeOf, placedOf, search, begin, present}
+use Rattle.crews.specs.Laws.Search.{putOf, placed-is, Tried, search-none, search-keeps}
 
 -- the crew at place j
 abbrev pub crew : Filling → ℕ → ℕ
@@ -61,16 +61,13 @@ unfolding closeOf
 shape-close w f s l =
     record { eight = s .eight; closed = omega arith; past = s .past; later = λ j h. s .later j (omega arith) }
 
+zeros-at : (n j : ℕ) → _≡_ {A = ℕ} (getD (replicate n 0) j 0) 0
+zeros-at zero j = refl
+zeros-at (suc n) zero = refl
+zeros-at (suc n) (suc j) = zeros-at n j
+
 pub none-at : (j : ℕ) → getD noCrews j 0 ≡ 0
-none-at zero = refl
-none-at (suc zero) = refl
-none-at (suc (suc zero)) = refl
-none-at (suc (suc (suc zero))) = refl
-none-at (suc (suc (suc (suc zero)))) = refl
-none-at (suc (suc (suc (suc (suc zero))))) = refl
-none-at (suc (suc (suc (suc (suc (suc zero)))))) = refl
-none-at (suc (suc (suc (suc (suc (suc (suc zero))))))) = refl
-none-at (suc (suc (suc (suc (suc (suc (suc (suc j)))))))) = refl
+none-at j = zeros-at crewLimit j
 
 pub shape-begin : (w : Work) (F : ℕ) → Shape w (begin F)
 shape-begin w F =
