@@ -85,7 +85,7 @@ pub record Going (a : Asked) (rest units : ℕ) : Type 0 where
   pub same : answer a ≡ filledOf (a .allowance) units (trying a (members 0 64 rest))
 
 pub begun : (a : Asked) {rest : ℕ} → rest ≡ all a → rest < 2 ^ 64 → a .spent ≤ a .allowance → a .state .closed ≢ a .crews
-    → ones (crewOf (a .state)) < a .size → Going a rest (a .spent)
+    → ones (crewOf (a .state)) < rule a .size → Going a rest (a .spent)
 begun a e w l n h =
     record {
       wide = w;
