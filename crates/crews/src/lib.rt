@@ -44,8 +44,9 @@ impl Filling {
     fn begin(free: u64) -> Filling
         ensures { λ r. ⌜ r ≡ begin free ⌝ }
     {
+        let crews = [0; Policy::CREWS];
         Filling {
-            crews: [0; Policy::CREWS],
+            crews: crews,
             closed: 0,
             free: free,
             held: 0,

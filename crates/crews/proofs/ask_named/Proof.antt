@@ -84,7 +84,7 @@ holders-of-requires c κs = search needs
 everyone-requires : tie.Need-everyone-requires
 everyone-requires c κs =
     let s = c .before .before .before .before .before .before .before .before .args in
-    named-within (s .table .rows) (s .task) (s .crews) (s .size) (s .absent)
+    named-within (s .table .rows) (s .task) (s .crews) (s .size) _
     (sym (c .before .before .before .before .before .before .before .named-ruling .ensures) ∙ c .before .before .before .before .before .enum-told .given .1) .0 .rows
 
 fill-requires : tie.Need-fill-requires
