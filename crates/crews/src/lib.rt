@@ -258,17 +258,6 @@ pub fn holders_of(holds: &[u32; Policy::ROWS]) -> [u64; 32]
     holders
 }
 
-// The set of all rows. A shift by 64 is no operation.
-fn everyone(rows: usize) -> u64
-    requires { ⌜ rows ≤ rowLimit ⌝ }
-    ensures { λ r. ⌜ r ≡ 2 ^ rows - 1 ⌝ }
-{
-    if rows == Policy::ROWS {
-        return !0u64;
-    }
-    (1u64 << rows) - 1
-}
-
 // The reply that a filling comes to.
 fn reply_of(filled: Filled) -> Reply
     ensures { λ r. ⌜ r ≡ repliedOf filled ⌝ }
@@ -316,7 +305,7 @@ pub fn ask_named(
                 task,
                 crews,
                 size,
-                everyone(rows) & !absent,
+                sets::below(rows) & !absent,
                 0,
                 allowance,
             ))
