@@ -1,0 +1,4 @@
+// The sheet's text.
+pub fn probe() -> u32 {
+    1
+}
