@@ -2,7 +2,7 @@
 use mathlib.Core.Path.{_≡_}
 use mathlib.Core.Bool.{Bool, true, false}
 use mathlib.Core.List.{List, [], _∷_, _++_}
-use Prim.Native.Nat.{ℕ, zero, suc, _+_, _/_, _%_}
+use Prim.Native.Nat.{ℕ, zero, suc, _+_, _/_, _%_, _≤_}
 use lib.Dec.{ltb}
 use lib.ListN.{length}
 use lib.Seq.{sets}
@@ -46,6 +46,10 @@ marked mark between (x ∷ l) = mark ∷ (x ++ marked between between l)
 unfoldable pub joined : ℕ → List (List ℕ) → List ℕ
 joined between [] = dash ∷ []
 joined between (x ∷ l) = x ++ marked between between l
+
+-- there is room for these bytes at this place of the buffer
+abbrev pub Room : List ℕ → List ℕ → ℕ → Type 0
+Room bytes buffer at = at + length bytes ≤ length buffer
 
 -- What appending these bytes at a place leaves: they stand there one after the other, all else is as it was, and the next place is past them.
 pub record Appended (bytes old : List ℕ) (at : ℕ) (new : List ℕ) (next : ℕ) : Type 0 where

@@ -1,4 +1,6 @@
 // The sheet's text.
+mod text;
+
 pub fn probe() -> u32 {
     1
 }

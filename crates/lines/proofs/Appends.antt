@@ -1,0 +1,49 @@
+-- Appends one after the other are one append: of this every function that writes is made. Assumes nothing.
+use mathlib.Core.Path.{_≡_, refl, sym, ap, _∙_, subst}
+use mathlib.Core.List.{List, [], _∷_, _++_}
+use Prim.Native.Nat.{ℕ, suc, _+_, _≤_}
+use native.Mathlib.Nat.{add-zero}
+use native.Mathlib.Omega.{arith}
+use lib.ListN.{length, set, length-append}
+use lib.Seq.{sets, length-sets}
+use Rattle.lines.specs.Text.{Room, Appended}
+
+-- one run of stores after another
+pub sets-append : (a b l : List ℕ) (i : ℕ) → sets (sets l i a) (i + length a) b ≡ sets l i (a ++ b)
+sets-append [] b l i = ap (λ (k : ℕ). sets l k b) (add-zero i)
+sets-append (x ∷ a) b l i =
+    let e : i + suc (length a) ≡ suc i + length a = omega arith in
+    ap (λ (k : ℕ). sets (sets (set l i x) (suc i) a) k b) e ∙ sets-append a b (set l i x) (suc i)
+
+module _ {a b old mid new : List ℕ} {at next end : ℕ} where
+  -- an append and then another
+  pub then : Appended a old at mid next → Appended b mid next new end → Appended (a ++ b) old at new end
+  then p q = record {
+    stand =
+        q .stand
+        ∙ ap (λ (l : List ℕ). sets l next b) (p .stand)
+        ∙ ap (λ (k : ℕ). sets (sets old at a) k b) (p .past)
+        ∙ sets-append a b old at;
+    past = omega (arith, q .past, p .past, length-append a b);
+  }
+
+-- nothing
+pub none : (old : List ℕ) (at : ℕ) → Appended [] old at old at
+none old at = record { stand = refl; past = omega arith }
+
+module _ {a old new : List ℕ} {at next : ℕ} where
+  -- the buffer keeps its length
+  pub same : Appended a old at new next → length new ≡ length old
+  same p = ap length (p .stand) ∙ length-sets old at a
+
+  -- the same bytes by another name
+  pub read-as : {b : List ℕ} → a ≡ b → Appended a old at new next → Appended b old at new next
+  read-as e p = subst (λ (l : List ℕ). Appended l old at new next) e p
+
+  -- what is left of the room
+  pub room : (b : List ℕ) → Room (a ++ b) old at → Appended a old at new next → Room b new next
+  room b r p = omega (arith, same p, p .past, length-append a b)
+
+-- room for the first of two
+pub room-first : (a b old : List ℕ) (at : ℕ) → Room (a ++ b) old at → Room a old at
+room-first a b old at r = omega (arith, length-append a b)
