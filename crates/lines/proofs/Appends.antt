@@ -1,6 +1,6 @@
 -- Appends one after the other are one append: of this every function that writes is made. Assumes nothing.
 use mathlib.Core.Path.{_≡_, refl, sym, ap, _∙_, subst}
-use mathlib.Core.List.{List, [], _∷_, _++_}
+use mathlib.Core.List.{List, [], _∷_, _++_, append-assoc, append-nil}
 use Prim.Native.Nat.{ℕ, suc, _+_, _≤_}
 use native.Mathlib.Nat.{add-zero}
 use native.Mathlib.Omega.{arith}
@@ -47,3 +47,34 @@ module _ {a old new : List ℕ} {at next : ℕ} where
 -- room for the first of two
 pub room-first : (a b old : List ℕ) (at : ℕ) → Room (a ++ b) old at → Room a old at
 room-first a b old at r = omega (arith, length-append a b)
+
+-- ---- a run of appends that is to come to `whole`, of which `rest` is left to be written
+
+pub record SoFar (whole rest old : List ℕ) (at : ℕ) (new : List ℕ) (next : ℕ) : Type 0 where
+  pub done : List ℕ
+  pub split : done ++ rest ≡ whole
+  pub so : Appended done old at new next
+
+pub begin : (whole old : List ℕ) (at : ℕ) → SoFar whole whole old at old at
+begin whole old at = record { done = []; split = refl; so = none old at }
+
+pub step : (a : List ℕ) {whole rest old mid new : List ℕ} {at next end : ℕ} → SoFar whole (a ++ rest) old at mid next → Appended a mid next new end → SoFar whole rest old at new end
+step a {rest = rest} p q = record {
+  done = p .done ++ a;
+  split = append-assoc (p .done) a rest ∙ p .split;
+  so = then (p .so) q;
+}
+
+-- there is room for what comes next
+pub fits : (a rest : List ℕ) {whole old mid : List ℕ} {at next : ℕ} → SoFar whole (a ++ rest) old at mid next → Room whole old at → Room a mid next
+fits a rest p r =
+    omega (arith, same (p .so), p .so .past, ap length (p .split), length-append (p .done) (a ++ rest), length-append a rest)
+
+module _ {whole old new : List ℕ} {at next : ℕ} where
+  -- what is left by another name
+  pub with-rest : {a b : List ℕ} → a ≡ b → SoFar whole a old at new next → SoFar whole b old at new next
+  with-rest e p = subst (λ (l : List ℕ). SoFar whole l old at new next) e p
+
+  -- nothing is left
+  pub finish : SoFar whole [] old at new next → Appended whole old at new next
+  finish p = read-as (sym (append-nil (p .done)) ∙ p .split) (p .so)

@@ -1,13 +1,14 @@
 // Appending text at a place of a lent buffer. Each function writes what its definition in specs/ says, touches nothing else, and answers the
 // place after it. Callers see to it that there is room.
-ghost use mathlib.Core.Path.{_≡_};
-ghost use mathlib.Core.List.{List, [], _∷_};
-ghost use Prim.Native.Nat.{_<_};
-ghost use lib.ListN.{length};
-ghost use Rattle.lines.specs.Text.{Room, Appended, comma};
-ghost use Rattle.lines.specs.Text.{decimal as Text·decimal, digit as Text·digit, marked};
-ghost use Rattle.lines.specs.Lines.{names};
 use roster::Policy;
+ghost use mathlib.Core.Path.{_≡_};
+ghost use mathlib.Core.List.{List, [], _∷_, map};
+ghost use Prim.Native.Nat.{_<_, _^_};
+ghost use lib.Bits.{bitXor};
+ghost use lib.ListN.{length, getD};
+ghost use Rattle.lines.specs.Text.{Room, Appended, comma, slash, marked};
+ghost use Rattle.lines.specs.Text.{decimal as Text·decimal, digit as Text·digit};
+ghost use Rattle.lines.specs.Lines.{names, setText, filled};
 
 // One byte.
 pub(crate) fn put(out: &mut [u8], at: usize, byte: u8) -> usize
@@ -50,4 +51,76 @@ pub(crate) fn decimal(out: &mut [u8], at: usize, n: u64) -> usize
     }
     let next = decimal(out, at, n / 10);
     put(out, next, digit(n % 10))
+}
+
+// As a wider number.
+fn wide(n: u32) -> u64
+    ensures { λ r. ⌜ r ≡ n ⌝ }
+{
+    n as u64
+}
+
+// A row's staff number after a mark.
+fn member(out: &mut [u8], at: usize, staff: &[u32; Policy::ROWS], mark: u8, row: usize) -> usize
+    requires { ⌜ (row < 64) × Room (mark ∷ Text·decimal (getD (now staff) row 0)) (now out) at ⌝ }
+    ensures { λ r. ⌜ Appended (mark ∷ Text·decimal (getD (now (staff .entry)) row 0)) (now (out .entry)) at (now (out .exit)) r ⌝ }
+{
+    let next = put(out, at, mark);
+    decimal(out, next, wide(staff[row]))
+}
+
+// A set without this row of it.
+fn without(set: u64, row: u32) -> u64
+    requires { ⌜ row < 64 ⌝ }
+    ensures { λ r. ⌜ r ≡ bitXor set (2 ^ row) ⌝ }
+{
+    set ^ (1u64 << row)
+}
+
+// The staff numbers of a set's rows in row order, the first after `mark`, the others after commas; nothing of an empty set.
+pub(crate) fn members(
+    out: &mut [u8],
+    at: usize,
+    staff: &[u32; Policy::ROWS],
+    mark: u8,
+    set: u64,
+) -> usize
+    requires { ⌜ Room (marked mark comma (names (now staff) set)) (now out) at ⌝ }
+    ensures { λ r. ⌜ Appended (marked mark comma (names (now (staff .entry)) set)) (now (out .entry)) at (now (out .exit)) r ⌝ }
+{
+    let mut next = at;
+    let mut before = mark;
+    let mut left = set;
+    while left != 0 {
+        let row = sets::least(left);
+        next = member(out, next, staff, before, row as usize);
+        before = b',';
+        left = without(left, row);
+    }
+    next
+}
+
+// The sets before the first that is empty, each as its members, the first after `mark`, the others after slashes.
+pub(crate) fn crews(
+    out: &mut [u8],
+    at: usize,
+    staff: &[u32; Policy::ROWS],
+    mark: u8,
+    sets: &[u64],
+) -> usize
+    requires { ⌜ Room (marked mark slash (map (setText (now staff)) (filled (now sets)))) (now out) at ⌝ }
+    ensures { λ r. ⌜ Appended (marked mark slash (map (setText (now (staff .entry))) (filled (now (sets .entry))))) (now (out .entry)) at (now (out .exit)) r ⌝ }
+{
+    let mut next = at;
+    let mut before = mark;
+    let mut j = 0;
+    while j < sets.len() {
+        if sets[j] == 0 {
+            return next;
+        }
+        next = members(out, next, staff, before, sets[j]);
+        before = b'/';
+        j += 1;
+    }
+    next
 }
