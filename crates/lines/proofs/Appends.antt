@@ -48,6 +48,10 @@ module _ {a old new : List ℕ} {at next : ℕ} where
 pub room-first : (a b old : List ℕ) (at : ℕ) → Room (a ++ b) old at → Room a old at
 room-first a b old at r = omega (arith, length-append a b)
 
+-- room by another name
+pub room-as : (old : List ℕ) (at : ℕ) {a b : List ℕ} → a ≡ b → Room a old at → Room b old at
+room-as old at e r = subst (λ (l : List ℕ). Room l old at) e r
+
 -- ---- a run of appends that is to come to `whole`, of which `rest` is left to be written
 
 pub record SoFar (whole rest old : List ℕ) (at : ℕ) (new : List ℕ) (next : ℕ) : Type 0 where

@@ -6,9 +6,10 @@ ghost use mathlib.Core.List.{List, [], _∷_, map};
 ghost use Prim.Native.Nat.{_<_, _^_};
 ghost use lib.Bits.{bitXor};
 ghost use lib.ListN.{length, getD};
-ghost use Rattle.lines.specs.Text.{Room, Appended, comma, slash, marked};
+ghost use Rattle.roster.specs.Limits.{rowLimit};
+ghost use Rattle.lines.specs.Text.{Room, Appended, space, comma, slash, dash, marked};
 ghost use Rattle.lines.specs.Text.{decimal as Text·decimal, digit as Text·digit};
-ghost use Rattle.lines.specs.Lines.{names, setText, filled};
+ghost use Rattle.lines.specs.Lines.{names, setText, filled, crewsText};
 
 // One byte.
 pub(crate) fn put(out: &mut [u8], at: usize, byte: u8) -> usize
@@ -54,19 +55,27 @@ pub(crate) fn decimal(out: &mut [u8], at: usize, n: u64) -> usize
 }
 
 // As a wider number.
-fn wide(n: u32) -> u64
+pub(crate) fn wide(n: u32) -> u64
     ensures { λ r. ⌜ r ≡ n ⌝ }
 {
     n as u64
 }
 
-// A row's staff number after a mark.
-fn member(out: &mut [u8], at: usize, staff: &[u32; Policy::ROWS], mark: u8, row: usize) -> usize
-    requires { ⌜ (row < 64) × Room (mark ∷ Text·decimal (getD (now staff) row 0)) (now out) at ⌝ }
-    ensures { λ r. ⌜ Appended (mark ∷ Text·decimal (getD (now (staff .entry)) row 0)) (now (out .entry)) at (now (out .exit)) r ⌝ }
+// A number after a mark.
+pub(crate) fn number(out: &mut [u8], at: usize, mark: u8, n: u64) -> usize
+    requires { ⌜ Room (mark ∷ Text·decimal n) (now out) at ⌝ }
+    ensures { λ r. ⌜ Appended (mark ∷ Text·decimal n) (now (out .entry)) at (now (out .exit)) r ⌝ }
 {
     let next = put(out, at, mark);
-    decimal(out, next, wide(staff[row]))
+    decimal(out, next, n)
+}
+
+// A row's staff number after a mark.
+fn member(out: &mut [u8], at: usize, staff: &[u32; Policy::ROWS], mark: u8, row: usize) -> usize
+    requires { ⌜ (row < rowLimit) × Room (mark ∷ Text·decimal (getD (now staff) row 0)) (now out) at ⌝ }
+    ensures { λ r. ⌜ Appended (mark ∷ Text·decimal (getD (now (staff .entry)) row 0)) (now (out .entry)) at (now (out .exit)) r ⌝ }
+{
+    number(out, at, mark, wide(staff[row]))
 }
 
 // A set without this row of it.
@@ -123,4 +132,44 @@ pub(crate) fn crews(
         j += 1;
     }
     next
+}
+
+// A space and the `-` that stands for no set.
+pub(crate) fn no_set(out: &mut [u8], at: usize) -> usize
+    requires { ⌜ Room (space ∷ dash ∷ []) (now out) at ⌝ }
+    ensures { λ r. ⌜ Appended (space ∷ dash ∷ []) (now (out .entry)) at (now (out .exit)) r ⌝ }
+{
+    let next = put(out, at, b' ');
+    put(out, next, b'-')
+}
+
+// A set as its members after a space; `-` if it is empty.
+pub(crate) fn one_set(out: &mut [u8], at: usize, staff: &[u32; Policy::ROWS], set: u64) -> usize
+    requires { ⌜ Room (space ∷ setText (now staff) set) (now out) at ⌝ }
+    ensures { λ r. ⌜ Appended (space ∷ setText (now (staff .entry)) set) (now (out .entry)) at (now (out .exit)) r ⌝ }
+{
+    if set == 0 {
+        no_set(out, at)
+    } else {
+        members(out, at, staff, b' ', set)
+    }
+}
+
+// A list of crews after a space; `-` if there is none.
+pub(crate) fn all_crews(
+    out: &mut [u8],
+    at: usize,
+    staff: &[u32; Policy::ROWS],
+    sets: &[u64],
+) -> usize
+    requires { ⌜ Room (space ∷ crewsText (now staff) (now sets)) (now out) at ⌝ }
+    ensures { λ r. ⌜ Appended (space ∷ crewsText (now (staff .entry)) (now (sets .entry))) (now (out .entry)) at (now (out .exit)) r ⌝ }
+{
+    if sets.len() == 0 {
+        return no_set(out, at);
+    }
+    if sets[0] == 0 {
+        return no_set(out, at);
+    }
+    crews(out, at, staff, b' ', sets)
 }
