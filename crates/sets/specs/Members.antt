@@ -1,7 +1,7 @@
 -- A mask's members as an ascending list, and the set of the numbers that pass a test. Nothing here is proved: these are definitions.
 use mathlib.Core.Bool.{Bool, true, false}
 use mathlib.Core.List.{List, [], _∷_}
-use Prim.Native.Nat.{ℕ, zero, suc, _+_, _*_, _/_, _%_, _^_, _≤_}
+use Prim.Native.Nat.{ℕ, zero, suc, _*_, _/_, _%_, _^_, _≤_}
 use lib.Dec.{eqb}
 use Rattle.sets.specs.Mask.{bit}
 use Rattle.sets.specs.Sums.{sumTo, toN}

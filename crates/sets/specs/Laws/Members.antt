@@ -47,14 +47,6 @@ members-none k (suc w) = members-none (suc k) w
 pub members-empty : (w : ℕ) → members 0 w 0 ≡ []
 members-empty w = members-none 0 w
 
--- the list depends on the digits below w only
-pub members-ext : (k w a b : ℕ) → ((i : ℕ) → i < w → bit a i ≡ bit b i) → members k w a ≡ members k w b
-unfolding members
-members-ext k zero a b h = refl
-members-ext k (suc w) a b h =
-    ap₂ (λ (d : ℕ) (l : List ℕ). cons? d k l) (sym (bit-zero a) ∙ h 0 (omega arith) ∙ bit-zero b)
-    (members-ext (suc k) w (a / 2) (b / 2) (λ i l. sym (bit-suc a i) ∙ h (suc i) (omega arith) ∙ bit-suc b i))
-
 -- x = k + i for a digit i that is set
 holds : (k w m x : ℕ) → List·Memᴰ x (members k w m) → (i : ℕ) × (i < w) × (x ≡ k + i) × (bit m i ≡ 1)
 unfolding members
@@ -81,6 +73,14 @@ has-of-mem w m i h =
 
 pub mem-of-has : (w m i : ℕ) → i < w → Has m i → List·Memᴰ i (members 0 w m)
 mem-of-has w m i l e = subst (λ (x : ℕ). List·Memᴰ x (members 0 w m)) (omega arith) (held 0 w m i l e)
+
+-- the list depends on the digits below w only
+pub members-ext : (k w a b : ℕ) → ((i : ℕ) → i < w → bit a i ≡ bit b i) → members k w a ≡ members k w b
+unfolding members
+members-ext k zero a b h = refl
+members-ext k (suc w) a b h =
+    ap₂ (λ (d : ℕ) (l : List ℕ). cons? d k l) (sym (bit-zero a) ∙ h 0 (omega arith) ∙ bit-zero b)
+    (members-ext (suc k) w (a / 2) (b / 2) (λ i l. sym (bit-suc a i) ∙ h (suc i) (omega arith) ∙ bit-suc b i))
 
 -- ---- in what order
 

@@ -10,9 +10,9 @@ use lib.Pow.{pow-pos}
 use lib.Bits.{bitAnd, bitOr, and-step, or-step}
 use lib.Count.{ones, onesIn, ones-step, ones-cat, ones-le}
 use Rattle.sets.specs.Mask.{bit, Has, Sub, Apart, minus, missing}
-use Rattle.sets.specs.Laws.Digits.{bit-le, bit-zero, bit-and, bit-or, bit-minus, bit-below, bit-high, lt-of-bits, ext-all}
+use Rattle.sets.specs.Laws.Digits.{bit-le, bit-zero, bit-and, bit-or, bit-minus, lt-of-bits, ext-all}
 use Rattle.sets.specs.Laws.Subsets.{test-of-apart, half-sub}
-use Rattle.sets.specs.Laws.Missing.{bit-missing, sub-of-missing, missing-in}
+use Rattle.sets.specs.Laws.Missing.{sub-of-missing, missing-in}
 use Rattle.sets.specs.Laws.Least.{some-member}
 
 pub ones-none : ones 0 ≡ 0

@@ -1,0 +1,6 @@
+pub mod Layout
+pub mod Faults
+pub mod Reading
+pub mod Steps
+pub mod Parts
+pub mod Cases
