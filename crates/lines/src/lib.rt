@@ -13,6 +13,12 @@ ghost use Rattle.roster.specs.Limits.{crewLimit};
 ghost use Rattle.lines.specs.Text.{Room, Appended, space};
 ghost use Rattle.lines.specs.Lines.{verdictWord, setsText, lineOf, badLine};
 
+// What asking for a sheet comes to: how many bytes of the buffer it takes, or that the buffer is shorter than a sheet can be.
+pub enum Sheet {
+    Written(usize),
+    TooShort,
+}
+
 // A verdict's word.
 fn verdict_word(out: &mut [u8], at: usize, verdict: Verdict) -> usize
     requires { ⌜ Room (verdictWord verdict) (now out) at ⌝ }
