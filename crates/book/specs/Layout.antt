@@ -1,7 +1,7 @@
 -- 01, "The roster book": the bytes of a book as a function of its permissions, rows and policies, and which values are admitted. A good book
 -- is the layout of admitted values. Nothing here is proved: these are definitions.
 use mathlib.Core.Path.{_≡_}
-use mathlib.Core.List.{List, [], _∷_, _++_, map}
+use mathlib.Core.List.{List, [], _∷_, _++_}
 use Prim.Native.Nat.{ℕ, zero, suc, _+_, _/_, _%_, _^_, _≤_, _<_}
 use lib.ListN.{length}
 use Rattle.roster.specs.Limits.{rowLimit}
@@ -81,15 +81,15 @@ unfoldable pub Each : {A : Type 0} → (A → Type 0) → List A → Type 0
 Each P [] = Unit
 Each P (x ∷ l) = P x × Each P l
 
--- x is below the first of the list, if it has one
-unfoldable pub Below : ℕ → List ℕ → Type 0
-Below x [] = Unit
-Below x (y ∷ l) = x < y
+-- x comes before the first of the list, if it has one
+unfoldable pub Below : {A : Type 0} → (A → ℕ) → A → List A → Type 0
+Below key x [] = Unit
+Below key x (y ∷ l) = key x < key y
 
--- "strictly ascending"
-unfoldable pub Ascends : List ℕ → Type 0
-Ascends [] = Unit
-Ascends (x ∷ l) = Below x l × Ascends l
+-- "strictly ascending", by this number of each
+unfoldable pub Ascends : {A : Type 0} → (A → ℕ) → List A → Type 0
+Ascends key [] = Unit
+Ascends key (x ∷ l) = Below key x l × Ascends key l
 
 -- What a policy of the book may be: P within the listed permissions, and none of the faults 2, 3, 4, 5.
 pub record PolicyFits (listed : ℕ) (p : Policy) : Type 0 where
@@ -103,9 +103,9 @@ pub record Admitted (v : Contents) : Type 0 where
   pub rows : length (v .rows) ≤ rowLimit
   pub policies : length (v .policies) ≤ policyLimit
   pub codes : Each (λ code. code < 2 ^ 16) (v .codes)
-  pub codesAscend : Ascends (v .codes)
+  pub codesAscend : Ascends (λ code. code) (v .codes)
   pub staff : Each (λ row. row .staff < 2 ^ 32) (v .rows)
-  pub staffAscends : Ascends (map (λ row. row .staff) (v .rows))
+  pub staffAscends : Ascends (λ row. row .staff) (v .rows)
   pub holdings : Each (λ row. row .holdings < 2 ^ length (v .codes)) (v .rows)
   pub sound : Each (PolicyFits (length (v .codes))) (v .policies)
 

@@ -4,3 +4,5 @@ pub mod Reading
 pub mod Steps
 pub mod Parts
 pub mod Cases
+pub mod Promises
+pub mod Laws
