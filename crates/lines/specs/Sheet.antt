@@ -60,7 +60,7 @@ sheetOf book = sheetBy book (readOf book)
 
 -- no sheet is longer (`sheet-fits`)
 abbrev pub longest : ℕ
-longest = 24000
+longest = 23232
 
 -- What is promised: where the buffer is long enough for any sheet, this book's sheet stands at its front, and the rest of it is as it was; a
 -- shorter buffer is answered as too short and is as it was.

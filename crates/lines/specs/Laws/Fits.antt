@@ -25,9 +25,54 @@ use Rattle.absences.specs.Asked.{PolicyReply}
 use Rattle.absences.specs.Replied.{policyReplyOf}
 use Rattle.absences.specs.Laws.Decided.{Case, is-refused, is-undecided, is-yes, is-no, admitted-fair, policy-case}
 use Rattle.absences.specs.Laws.Demands.{policy-allowed, holds-list}
+use Rattle.roster.specs.Refusals.{numberOf, policyRuling, madeBy}
+use Rattle.roster.specs.declared.Refusal.{Refusal}
+use Rattle.roster.specs.declared.Refusal.the-variants as refusal
+use Rattle.roster.specs.declared.Policy.{Policy}
+use Rattle.roster.specs.declared.Ruling.{Ruling}
+use Rattle.roster.specs.declared.Ruling.the-variants as ruling
+use Rattle.book.specs.Layout.{Each}
+use Rattle.book.specs.Faults.{faultNumber}
+use Rattle.book.specs.Promises.{Bytes, FirstFault}
+use Rattle.book.specs.Reading.{
+  fieldsAt,
+  Kind,
+  codes,
+  rows,
+  policies,
+  width,
+  entryAt,
+  entryLook,
+  Found,
+  inTurn,
+  countAt,
+  sectionLooks,
+  past,
+  listedIn,
+  endLook,
+  looksFromPolicies,
+  looksFromRows,
+  looks,
+  startsOf,
+  readOf,
+}
+use Rattle.book.specs.Parts.{startsIn, placeOf, staffFrom, staffAt, upFrom, tableOf, contentsOf, policyCount, listedBy, policyFrom, policyAt}
+use Rattle.book.specs.Laws.Codec.{number-fits}
+use Rattle.book.specs.Laws.Books.{rowsAt, policiesAt, reply, good-layout}
+use Rattle.book.specs.Laws.Books as books
+use Rattle.book.specs.Laws.Parts.{layout-parts}
+use Rattle.book.specs.declared.Fault.{Fault}
+use Rattle.book.specs.declared.Fault.the-variants.{Short, Permissions, Code, Rows, Staff, Holdings, Policies, Task, Policy as PolicyFault, Excess}
+use Rattle.book.specs.declared.Look.{Look}
+use Rattle.book.specs.declared.Look.the-variants.{Faulty}
+use Rattle.book.specs.declared.Before.{Before}
+use Rattle.book.specs.declared.Before.the-variants.{Nothing, Entry}
+use Rattle.book.specs.declared.Reading.{Reading}
+use Rattle.book.specs.declared.Place.{Place}
+use Rattle.book.specs.declared.Place.the-variants as place
 use Rattle.lines.specs.Text.{space, newline, comma, slash, dash, decimal, marked, joined}
 use Rattle.lines.specs.Lines.{verdictWord, names, setText, filled, crewsText, setsText, lineOf, badLine}
-use Rattle.lines.specs.Sheet.{allowance, staffOf, replyTo, lineBy, linesFrom, sheetBy, sheetOf, longest}
+use Rattle.lines.specs.Sheet.{allowance, staffOr0, staffOf, replyTo, lineBy, linesFrom, sheetBy, sheetOf, longest}
 use Rattle.lines.specs.Laws.Decimal.{decimal-length}
 use Rattle.lines.specs.Laws.More.{onesOf, Disjoint, disjoint-few}
 
@@ -154,3 +199,128 @@ module _ (staff : List ℕ) (fits : (row : ℕ) → getD staff row 0 < 2 ^ 32) (
       go (is-no e l A f) =
           by (may .no e l A f) l
           (set-length staff fits A (lt-of-lt-of-le (f .rows) (pow-mono (admitted-fair table P s d t wide e .rows))))
+
+-- ---- the lines of a book
+
+module _ (book : List ℕ) (bytes : Bytes book) where
+  up-fits : (f : ℕ → ℕ) → ((row : ℕ) → f row < 2 ^ 32) → (n i u : ℕ) → getD (upFrom i n f) u 0 < 2 ^ 32
+  unfolding upFrom
+  up-fits f h zero i u = omega arith
+  up-fits f h (suc n) i zero = h i
+  up-fits f h (suc n) i (suc u) = up-fits f h n (suc i) u
+
+  from-fits : (at : Place) → staffOr0 (staffFrom book at) < 2 ^ 32
+  unfolding fieldsAt
+  from-fits (place.At at) = number-fits 4 book at bytes
+  from-fits place.Nothing = omega arith
+
+  staff-fits : (row : ℕ) → getD (staffOf book) row 0 < 2 ^ 32
+  unfolding staffOf
+  staff-fits row =
+      up-fits (λ u. staffOr0 (staffAt book (startsIn book .rows) u)) (λ u. from-fits (placeOf (width rows) book (startsIn book .rows) u)) 64 0 row
+
+  line-fits : (index : ℕ) → index < 100 → length (lineBy book index (policyAt book index)) ≤ 726
+  unfolding policyAt lineBy replyTo fieldsAt
+  line-fits index early = at (placeOf (width policies) book (startsIn book .policies) index)
+    where
+      made : (p : Policy) → p .task < 2 ^ 32 → (r : Ruling) → length (lineBy book index (listedBy (madeBy r p))) ≤ 726
+      made p wide ruling.Admitted = reply-line (staffOf book) staff-fits index early (tableOf book) (p .task) (p .away) (p .crews) (p .size) wide
+      made p wide (ruling.Refused refusal) = omega arith
+
+      at : (place : Place) → length (lineBy book index (policyFrom book place)) ≤ 726
+      at (place.At a) =
+          let p = entryAt policies book a in
+          made p (number-fits 4 book a bytes) (policyRuling 0 (p .task) (p .away) (p .crews) (p .size))
+      at place.Nothing = omega arith
+
+  lines-fit : (n index : ℕ) → index + n ≤ 100 → length (linesFrom book index n) ≤ 726 * n
+  unfolding linesFrom
+  lines-fit zero index h = omega arith
+  lines-fit (suc n) index h =
+      omega (
+        arith,
+        length-append (lineBy book index (policyAt book index)) (linesFrom book (suc index) n),
+        line-fits index (omega arith),
+        lines-fit n (suc index) (omega arith),
+      )
+
+  -- ---- the line of a refused book: a place is told by three counts of a byte each
+
+  abbrev Early : List Found → Type 0
+  Early = Each (λ x. x .place < 10000)
+
+  early-append : (l m : List Found) → Early l → Early m → Early (l ++ m)
+  unfolding Each
+  early-append [] m a b = b
+  early-append (x ∷ l) m a b = (a .0, early-append l m (a .1) b)
+
+  in-turn-early : (look : Before → ℕ → Look) (wide n : ℕ) (before : Before) (at : ℕ) → at + wide * n < 10000 → Early (inTurn look wide before at n)
+  unfolding Each inTurn
+  in-turn-early look wide zero before at h = tt
+  in-turn-early look wide (suc n) before at h = (omega arith, in-turn-early look wide n (Entry at) (at + wide) (omega arith))
+
+  section-early : {A : Type 0} (kind : Kind A) (listed at : ℕ) → past kind book at < 10000 → Early (sectionLooks kind book listed at)
+  unfolding Each sectionLooks past
+  section-early kind listed at h =
+      (omega arith, in-turn-early (entryLook kind book listed) (width kind) (countAt book at) Nothing (at + 1) (omega arith))
+
+  looks-early : Early (looks book)
+  unfolding Each past
+  looks-early =
+      let a = rowsAt book in
+      let b = policiesAt book in
+      let one : a ≤ 511 = omega (arith, bytes 0) in
+      let two : b ≤ 2552 = omega (arith, bytes a) in
+      let three : past policies book b < 10000 = omega (arith, bytes b) in
+      early-append (sectionLooks codes book 0 0) (looksFromRows book a) (section-early codes 0 0 (omega arith))
+      (early-append (sectionLooks rows book (listedIn book) a) (looksFromPolicies book b) (section-early rows (listedIn book) a (omega arith))
+      (early-append (sectionLooks policies book (listedIn book) b) (endLook book (past policies book b) ∷ []) (section-early policies (listedIn book) b three)
+      (three, tt)))
+
+  early-in : (l m : List Found) (x : Found) → Early (l ++ (x ∷ m)) → x .place < 10000
+  unfolding Each
+  early-in [] m x h = h .0
+  early-in (y ∷ l) m x h = early-in l m x (h .1)
+
+  place-early : (f : Fault) (at : ℕ) → FirstFault book f at → at < 10000
+  place-early f at h = early-in (h .before) (h .after) (record { place = at; look = Faulty f }) (subst Early (h .order) looks-early)
+
+  refusal-few : (r : Refusal) → numberOf r < 100
+  refusal-few refusal.Rows = omega arith
+  refusal-few refusal.Task = omega arith
+  refusal-few refusal.Away = omega arith
+  refusal-few refusal.Crews = omega arith
+  refusal-few refusal.Size = omega arith
+  refusal-few refusal.Absence = omega arith
+
+  fault-few : (f : Fault) → faultNumber f < 100
+  fault-few Short = omega arith
+  fault-few Permissions = omega arith
+  fault-few Code = omega arith
+  fault-few Rows = omega arith
+  fault-few Staff = omega arith
+  fault-few Holdings = omega arith
+  fault-few Policies = omega arith
+  fault-few Task = omega arith
+  fault-few (PolicyFault refusal) = refusal-few refusal
+  fault-few Excess = omega arith
+
+  bad-fits : (f : Fault) (at : ℕ) → at < 10000 → length (badLine (faultNumber f) at) ≤ longest
+  unfolding badLine joined marked
+  bad-fits f at h = simp length-append (omega (arith, decimal-length 1 (faultNumber f) (fault-few f), decimal-length 3 at h))
+
+-- no sheet of a byte string is longer
+pub sheet-fits : (book : List ℕ) → Bytes book → length (sheetOf book) ≤ longest
+unfolding sheetOf sheetBy
+sheet-fits book bytes = ⊎-elim good refused (reply book)
+  where
+    good : books.Good book → length (sheetOf book) ≤ longest
+    good g =
+        let l = good-layout book (startsOf book) bytes (g .reply) in
+        let e : policyCount book ≡ length (contentsOf book .policies) = layout-parts (contentsOf book) book l .policies in
+        let many : policyCount book ≤ 32 = omega (arith, l .admitted .policies) in
+        omega (arith, lines-fit book bytes (policyCount book) 0 (omega arith), ap (λ (r : Reading). length (sheetBy book r)) (g .reply))
+
+    refused : books.Refused book → length (sheetOf book) ≤ longest
+    refused r =
+        omega (arith, bad-fits book bytes (r .fault) (r .place) (place-early book bytes (r .fault) (r .place) (r .first)), ap (λ (q : Reading). length (sheetBy book q)) (r .reply))
