@@ -19,6 +19,8 @@ use Rattle.roster.specs.declared.Reply.{Reply}
 use Rattle.roster.specs.declared.Table.{Table}
 use Rattle.roster.specs.Meaning.{CrewList}
 use Rattle.crews.specs.Named.{firstList}
+use Rattle.crews.specs.Filled.{tabulate}
+use Rattle.crews.specs.Laws.Arrays.{at-tabulate, at-past}
 use Rattle.crews.specs.Laws.Exact.{crews-past}
 use Rattle.absences.specs.Tried.{skipping}
 use Rattle.absences.specs.Asked.{PolicyReply}
@@ -56,7 +58,7 @@ use Rattle.book.specs.Reading.{
   startsOf,
   readOf,
 }
-use Rattle.book.specs.Parts.{startsIn, placeOf, staffFrom, staffAt, upFrom, tableOf, contentsOf, policyCount, listedBy, policyFrom, policyAt}
+use Rattle.book.specs.Parts.{startsIn, placeOf, staffFrom, staffAt, tableOf, contentsOf, policyCount, listedBy, policyFrom, policyAt}
 use Rattle.book.specs.Laws.Codec.{number-fits}
 use Rattle.book.specs.Laws.Books.{rowsAt, policiesAt, reply, good-layout}
 use Rattle.book.specs.Laws.Books as books
@@ -203,12 +205,6 @@ module _ (staff : List ℕ) (fits : (row : ℕ) → getD staff row 0 < 2 ^ 32) (
 -- ---- the lines of a book
 
 module _ (book : List ℕ) (bytes : Bytes book) where
-  up-fits : (f : ℕ → ℕ) → ((row : ℕ) → f row < 2 ^ 32) → (n i u : ℕ) → getD (upFrom i n f) u 0 < 2 ^ 32
-  unfolding upFrom
-  up-fits f h zero i u = omega arith
-  up-fits f h (suc n) i zero = h i
-  up-fits f h (suc n) i (suc u) = up-fits f h n (suc i) u
-
   from-fits : (at : Place) → staffOr0 (staffFrom book at) < 2 ^ 32
   unfolding fieldsAt
   from-fits (place.At at) = number-fits 4 book at bytes
@@ -216,8 +212,15 @@ module _ (book : List ℕ) (bytes : Bytes book) where
 
   staff-fits : (row : ℕ) → getD (staffOf book) row 0 < 2 ^ 32
   unfolding staffOf
-  staff-fits row =
-      up-fits (λ u. staffOr0 (staffAt book (startsIn book .rows) u)) (λ u. from-fits (placeOf (width rows) book (startsIn book .rows) u)) 64 0 row
+  staff-fits row = go (decLt row 64)
+    where
+      number : ℕ → ℕ
+      number u = staffOr0 (staffAt book (startsIn book .rows) u)
+
+      go : Dec (row < 64) → getD (tabulate 64 number) row 0 < 2 ^ 32
+      go (yes l) =
+          omega (arith, at-tabulate 64 number row l, from-fits (placeOf (width rows) book (startsIn book .rows) row))
+      go (no n) = omega (arith, at-past 64 number row (omega arith))
 
   line-fits : (index : ℕ) → index < 100 → length (lineBy book index (policyAt book index)) ≤ 726
   unfolding policyAt lineBy replyTo fieldsAt
