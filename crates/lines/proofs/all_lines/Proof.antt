@@ -11,12 +11,6 @@ use Rattle.lines.specs.Sheet.{lineBy, linesFrom}
 use Rattle.lines.proofs.Appends.{SoFar, begin, step, fits, with-rest, finish, same, room-as, read-as}
 use Rattle.lines.proofs.all_lines.Statement.{statement}
 use Rattle.lines.proofs.all_lines.Tie as tie
-use Rattle.lines.proofs.all_lines.Reads as reads
-use Rattle.lines.proofs.all_lines.Lts as lts
-use Rattle.book.proofs.policy_count.Reads as policy-count-reads
-use Rattle.book.proofs.table_of.Reads as table-of-reads
-use Rattle.lines.proofs.all_staff.Reads as all-staff-reads
-use Rattle.lines.proofs.policy_line.Reads as policy-line-reads
 
 -- one line more, and the others
 next : (book : List ℕ) (index count : ℕ) → index < count

@@ -10,10 +10,6 @@ use Rattle.book.specs.declared.Starts.{Starts}
 use Rattle.lines.specs.Sheet.{staffOr0, staffOf}
 use Rattle.lines.proofs.all_staff.Statement.{statement}
 use Rattle.lines.proofs.all_staff.Tie as tie
-use Rattle.lines.proofs.all_staff.Reads as reads
-use Rattle.lines.proofs.all_staff.Lts as lts
-use Rattle.book.proofs.starts_in.Reads as starts-in-reads
-use Rattle.lines.proofs.staff_of.Reads as staff-of-reads
 
 abbrev numberIn : List ℕ → ℕ → ℕ → ℕ
 numberIn book start row = staffOr0 (staffAt book start row)

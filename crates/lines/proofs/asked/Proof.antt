@@ -17,10 +17,6 @@ use Rattle.lines.proofs.Appends.{read-as, room-as}
 use borrow.Author.Needs.{needs}
 use Rattle.lines.proofs.asked.Statement.{statement}
 use Rattle.lines.proofs.asked.Tie as tie
-use Rattle.lines.proofs.asked.Reads as reads
-use Rattle.lines.proofs.asked.Lts as lts
-use Rattle.absences.proofs.ask_skipping.Reads as ask-skipping-reads
-use Rattle.lines.proofs.line.Reads as line-reads
 
 module _ (table : Table) (P s d t : ℕ) (wide : P < 2 ^ 32) (r : Reply) (may : PolicyReply skipping table P s d t allowance r) where
   -- "Crews are eight sets"

@@ -15,10 +15,6 @@ use Rattle.lines.proofs.Appends.{none, read-as, room-as}
 use borrow.Author.Needs.{needs}
 use Rattle.lines.proofs.policy_line.Statement.{statement}
 use Rattle.lines.proofs.policy_line.Tie as tie
-use Rattle.lines.proofs.policy_line.Reads as reads
-use Rattle.lines.proofs.policy_line.Lts as lts
-use Rattle.book.proofs.policy_at.Reads as policy-at-reads
-use Rattle.lines.proofs.asked.Reads as asked-reads
 
 there : (book : List ℕ) (index : ℕ) (staff : List ℕ) (table : Table) (p : Policy) (l : Listed) → staff ≡ staffOf book → table ≡ tableOf book
     → l ≡ policyAt book index → l ≡ listed.Policy p

@@ -23,12 +23,6 @@ use Rattle.lines.proofs.Appends.{read-as, room-as}
 use borrow.Author.Needs.{needs}
 use Rattle.lines.proofs.sheet.Statement.{statement}
 use Rattle.lines.proofs.sheet.Tie as tie
-use Rattle.lines.proofs.sheet.Reads as reads
-use Rattle.lines.proofs.sheet.Lts as lts
-use Rattle.book.proofs.Fault.number.Reads as number-reads
-use Rattle.book.proofs.read.Reads as read-reads
-use Rattle.lines.proofs.all_lines.Reads as all-lines-reads
-use Rattle.lines.proofs.bad_line.Reads as bad-line-reads
 
 -- ---- a buffer that is long enough
 

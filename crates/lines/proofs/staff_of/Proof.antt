@@ -4,9 +4,6 @@ use Rattle.lines.specs.Sheet.{staffOr0}
 use borrow.Author.Needs.{needs}
 use Rattle.lines.proofs.staff_of.Statement.{statement}
 use Rattle.lines.proofs.staff_of.Tie as tie
-use Rattle.lines.proofs.staff_of.Reads as reads
-use Rattle.lines.proofs.staff_of.Lts as lts
-use Rattle.book.proofs.staff_at.Reads as staff-at-reads
 
 staff-at-requires : tie.Need-staff-at-requires
 staff-at-requires c κs = search needs
