@@ -15,6 +15,7 @@ ghost use Prim.Native.Nat.{_<_, _^_};
 ghost use lib.ListN.{length};
 ghost use Rattle.roster.specs.Limits.{crewLimit};
 ghost use Rattle.absences.specs.Tried.{skipping};
+ghost use Rattle.absences.specs.Asked.{PolicyReply};
 ghost use Rattle.absences.specs.Replied.{policyReplyOf};
 ghost use Rattle.book.specs.Parts.{staffAt, tableOf, policyCount, policyAt};
 ghost use Rattle.lines.specs.Text.{Room, Appended, space};
@@ -110,7 +111,14 @@ fn all_staff(book: &[u8]) -> [u32; Policy::ROWS]
     staff
 }
 
-// A policy is asked anew, with the whole allowance, and its line is written.
+// The reply to a policy, by the search that skips and with the whole allowance.
+fn reply_of(table: Table, task: u32, away: u32, crews: usize, size: u32) -> Reply
+    ensures { λ r. ⌜ PolicyReply skipping table task away crews size allowance r ⌝ }
+{
+    absences::ask_skipping(table, task, away, crews, size, ALLOWANCE)
+}
+
+// A policy is asked, and the line of its reply is written.
 fn asked(
     out: &mut [u8],
     at: usize,
@@ -125,7 +133,7 @@ fn asked(
     requires { ⌜ Room (lineOf (now staff) index (policyReplyOf skipping table task away crews size allowance)) (now out) at ⌝ }
     ensures { λ r. ⌜ Appended (lineOf (now (staff .entry)) index (policyReplyOf skipping table task away crews size allowance)) (now (out .entry)) at (now (out .exit)) r ⌝ }
 {
-    let reply = absences::ask_skipping(table, task, away, crews, size, ALLOWANCE);
+    let reply = reply_of(table, task, away, crews, size);
     line(out, at, staff, index, reply)
 }
 

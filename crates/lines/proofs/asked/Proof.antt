@@ -36,25 +36,25 @@ module _ (table : Table) (P s d t : ℕ) (wide : P < 2 ^ 32) (r : Reply) (may : 
       (policy-allowed skipping table P s d t wide allowance)
 
 -- the reply and the line at the place where the search has answered
-answered : (c : tie.After-ask-skipping)
+answered : (c : tie.After-reply-of)
     → let a = c .before .before .args in
-    lineOf (a .staff .now) (a .index) (c .ask-skipping .result)
+    lineOf (a .staff .now) (a .index) (c .reply-of .result)
     ≡ lineOf (a .staff .now) (a .index) (policyReplyOf skipping (a .table) (a .task) (a .away) (a .crews) (a .size) allowance)
 answered c =
     let s = c .before .before in
     let a = s .args in
     ap (lineOf (a .staff .now) (a .index))
-    (only (a .table) (a .task) (a .away) (a .crews) (a .size) (s .fits .task .fits) (c .ask-skipping .result) (c .ask-skipping .ensures))
+    (only (a .table) (a .task) (a .away) (a .crews) (a .size) (s .fits .task .fits) (c .reply-of .result) (c .reply-of .ensures))
 
-ask-skipping-requires : tie.Need-ask-skipping-requires
-ask-skipping-requires c κs = search needs
+reply-of-requires : tie.Need-reply-of-requires
+reply-of-requires c κs = search needs
 
 line-requires : tie.Need-line-requires
 line-requires c κs =
     let p = c .before in
     let s = p .before .before in
     let a = s .args in (
-      eight (a .table) (a .task) (a .away) (a .crews) (a .size) (s .fits .task .fits) (p .ask-skipping .result) (p .ask-skipping .ensures),
+      eight (a .table) (a .task) (a .away) (a .crews) (a .size) (s .fits .task .fits) (p .reply-of .result) (p .reply-of .ensures),
       room-as (a .out .now) (a .at) (sym (answered p)) (s .pre),
     )
 
@@ -65,4 +65,4 @@ returns : tie.Need-returns
 returns c = read-as (answered (c .before .before .before .before)) (c .before .before .line .ensures)
 
 pub asked-spec : {M : Type 1} → statement M
-asked-spec = tie.close (tie.spec ask-skipping-requires line-requires same-length returns)
+asked-spec = tie.close (tie.spec reply-of-requires line-requires same-length returns)
