@@ -1,5 +1,5 @@
 -- How a set's members and a reply's crews are written one after the other: what one turn of a loop writes, and what is left. Assumes nothing.
-use mathlib.Core.Path.{_≡_, refl, sym, ap, ap₂, _∙_}
+use mathlib.Core.Path.{_≡_, refl, sym, ap, _∙_}
 use mathlib.Core.Logic.{_≢_}
 use mathlib.Core.List.{List, [], _∷_, _++_, map}
 use Prim.Native.Nat.{ℕ, zero, suc, _^_, _≤_, _<_}
@@ -8,7 +8,6 @@ use lib.Bits.{bitXor}
 use lib.Count.{trailingZeros}
 use lib.ListN.{length, getD, drop, drop-of-length-le}
 use lib.Seq.{drop-cons}
-use Rattle.sets.specs.Members.{members}
 use Rattle.sets.specs.Laws.Members.{members-empty, members-least}
 use Rattle.lines.specs.Text.{comma, slash, decimal, marked, joined}
 use Rattle.lines.specs.Lines.{names, setText, filled}

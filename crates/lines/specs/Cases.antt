@@ -1,6 +1,6 @@
 -- 01's book B: its three replies as they are printed, its sheet, and those of the two refused books. By running the definitions.
 use mathlib.Core.Path.{_≡_, refl}
-use mathlib.Core.List.{List, [], _∷_, _++_, map}
+use mathlib.Core.List.{List, [], _∷_, _++_}
 use Prim.Native.Nat.{ℕ}
 use lib.Count.{ones, onesIn, trailingZeros}
 use Rattle.sets.specs.Sets.{bit}
@@ -10,7 +10,6 @@ use Rattle.roster.specs.Meaning.{ahead, rank}
 use Rattle.roster.specs.Refusals.{policyRuling}
 use Rattle.roster.specs.Replies.{noCrews}
 use Rattle.roster.specs.declared.Verdict.the-variants.{Yes, No, Undecided}
-use Rattle.roster.specs.declared.Reply.{Reply}
 use Rattle.crews.specs.Filling.{placeOf, closeOf, placedOf, candidates, tryEach, search}
 use Rattle.crews.specs.Filled.{tabulate}
 use Rattle.absences.specs.Tried.{outweighsb, rowFrom, joins, listed, sizesFrom, weighed}

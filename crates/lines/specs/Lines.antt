@@ -1,6 +1,5 @@
 -- 01, "The sheet": how a reply is written as a line, and the line of a refused book. Nothing here is proved: these are definitions, and they
 -- run.
-use mathlib.Core.Bool.{Bool, true, false}
 use mathlib.Core.List.{List, [], _∷_, _++_, map}
 use Prim.Native.Nat.{ℕ, zero, suc}
 use lib.ListN.{getD}

@@ -2,7 +2,7 @@
 -- reply, of the reply to each policy by the search that skips, and of how a line is written. Nothing here is proved: these are definitions,
 -- and they run.
 use mathlib.Core.Path.{_≡_}
-use mathlib.Core.List.{List, [], _∷_, _++_}
+use mathlib.Core.List.{List, [], _++_}
 use Prim.Native.Nat.{ℕ, zero, suc, _≤_, _<_}
 use lib.ListN.{length, drop}
 use Rattle.roster.specs.Limits.{rowLimit}

@@ -1,12 +1,10 @@
 -- The loop writes one policy's line after the other. Its measure is how many are left. Assumes nothing.
-use mathlib.Core.Path.{_≡_, refl, sym, ap, ap₂, subst, _∙_}
+use mathlib.Core.Path.{_≡_, sym, ap}
 use mathlib.Core.List.{List, [], _++_}
 use Prim.Native.Nat.{ℕ, suc, _+_, _-_, _≤_, _<_}
 use native.Mathlib.Numerals.{add-one}
 use native.Mathlib.Omega.{arith}
-use lib.ListN.{length}
 use Rattle.book.specs.Parts.{policyCount, policyAt}
-use Rattle.lines.specs.Text.{Room, Appended}
 use Rattle.lines.specs.Sheet.{lineBy, linesFrom}
 use Rattle.lines.proofs.Appends.{SoFar, begin, step, fits, with-rest, finish, same, room-as, read-as}
 use Rattle.lines.proofs.all_lines.Statement.{statement}

@@ -1,11 +1,11 @@
 -- The rows passed have their numbers, and the others still 0. Assumes nothing.
-use mathlib.Core.Path.{_≡_, sym, ap, _∙_}
+use mathlib.Core.Path.{ap, _∙_}
 use mathlib.Core.List.{List}
 use Prim.Native.Nat.{ℕ, _-_}
 use borrow.Author.Needs.{needs}
 use Rattle.crews.specs.Filled.{tabulate}
 use Rattle.crews.specs.Laws.Arrays.{Passed, passed-none, passed-stored, passed-all}
-use Rattle.book.specs.Parts.{startsIn, staffAt}
+use Rattle.book.specs.Parts.{staffAt}
 use Rattle.book.specs.declared.Starts.{Starts}
 use Rattle.lines.specs.Sheet.{staffOr0, staffOf}
 use Rattle.lines.proofs.all_staff.Statement.{statement}

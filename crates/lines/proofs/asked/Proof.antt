@@ -1,5 +1,5 @@
 -- What the search replies is the one reply that is allowed (`policy-same`), and it has eight crews. Assumes nothing.
-use mathlib.Core.Path.{_≡_, refl, sym, ap, _∙_}
+use mathlib.Core.Path.{_≡_, sym, ap, _∙_}
 use Prim.Native.Nat.{ℕ, _^_, _<_}
 use lib.ListN.{length}
 use Rattle.roster.specs.Limits.{crewLimit}

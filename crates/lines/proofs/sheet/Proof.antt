@@ -1,7 +1,7 @@
 -- The reader's reply picks the line of a refused book or the lines of a good one. A buffer that is as long as the longest sheet has room for this
 -- one (`sheet-fits`), and what is appended at its front leaves the rest as it was. Assumes nothing.
-use mathlib.Core.Path.{_≡_, refl, sym, ap, ap₂, _∙_}
-use mathlib.Core.List.{List, [], _∷_, _++_}
+use mathlib.Core.Path.{_≡_, refl, sym, ap, _∙_}
+use mathlib.Core.List.{List, _++_}
 use Prim.Native.Nat.{ℕ, _+_, _≤_}
 use native.Mathlib.Omega.{arith}
 use lib.ListN.{length, drop}
@@ -14,7 +14,7 @@ use Rattle.book.specs.declared.Fault.{Fault}
 use Rattle.book.specs.declared.Starts.{Starts}
 use Rattle.book.specs.declared.Reading.{Reading}
 use Rattle.book.specs.declared.Reading.the-variants.{Good, Refused}
-use Rattle.lines.specs.declared.Writing.the-variants.{Written, TooShort}
+use Rattle.lines.specs.declared.Writing.the-variants.{Written}
 use Rattle.lines.specs.Text.{Room, Appended}
 use Rattle.lines.specs.Lines.{badLine}
 use Rattle.lines.specs.Sheet.{linesFrom, sheetBy, sheetOf, longest, Promised}

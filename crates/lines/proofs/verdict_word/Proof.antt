@@ -1,5 +1,5 @@
 -- Each arm writes the word of its verdict. Assumes nothing.
-use mathlib.Core.Path.{_≡_, sym, ap, _∙_}
+use mathlib.Core.Path.{_≡_, sym, ap}
 use Rattle.roster.specs.declared.Verdict.{Verdict}
 use Rattle.roster.specs.declared.Verdict.the-variants.{Yes, No}
 use Rattle.lines.specs.Lines.{yes, no, verdictWord}

@@ -1,16 +1,16 @@
 -- No sheet is longer than `longest`: at most 32 lines, each of at most 726 bytes, since a line names each row at most once. Assumes nothing.
-use mathlib.Core.Path.{_≡_, refl, sym, ap, ap₂, subst, _∙_}
-use mathlib.Core.Logic.{_⊎_, inl, inr, _≢_, ⊎-elim}
+use mathlib.Core.Path.{_≡_, refl, sym, ap, subst}
+use mathlib.Core.Logic.{_⊎_, ⊎-elim}
 use mathlib.Core.List.{List, [], _∷_, _++_, map}
 use Prim.Native.Nat.{ℕ, zero, suc, _+_, _-_, _*_, _^_, _≤_, _<_}
 use native.Mathlib.Nat.{lt-of-lt-of-le}
 use native.Mathlib.Omega.{arith}
-use native.Mathlib.Decide.{decLt, ℕ-discrete}
+use native.Mathlib.Decide.{decLt}
 use lib.Count.{ones}
-use lib.ListN.{length, getD, take, length-append, length-map}
+use lib.ListN.{length, getD, take, length-append}
 use lib.Pow.{pow-mono}
 use lib.Seq.{getD-take}
-use Rattle.sets.specs.Sets.{bit, Apart, bit-le, bit-none, ones-bound, ones-pos, bit-below}
+use Rattle.sets.specs.Sets.{bit, bit-le, bit-none, ones-bound, ones-pos, bit-below}
 use Rattle.sets.specs.Members.{members}
 use Rattle.sets.specs.Laws.Members.{length-members}
 use Rattle.roster.specs.declared.Verdict.{Verdict}
@@ -36,28 +36,7 @@ use Rattle.roster.specs.declared.Ruling.the-variants as ruling
 use Rattle.book.specs.Layout.{Each}
 use Rattle.book.specs.Faults.{faultNumber}
 use Rattle.book.specs.Promises.{Bytes, FirstFault}
-use Rattle.book.specs.Reading.{
-  fieldsAt,
-  Kind,
-  codes,
-  rows,
-  policies,
-  width,
-  entryAt,
-  entryLook,
-  Found,
-  inTurn,
-  countAt,
-  sectionLooks,
-  past,
-  listedIn,
-  endLook,
-  looksFromPolicies,
-  looksFromRows,
-  looks,
-  startsOf,
-  readOf,
-}
+use Rattle.book.specs.Reading.{fieldsAt, Kind, codes, rows, policies, width, entryAt, entryLook, Found, inTurn, countAt, sectionLooks, past, listedIn, endLook, looksFromPolicies, looksFromRows, looks, startsOf}
 use Rattle.book.specs.Parts.{startsIn, placeOf, staffFrom, staffAt, tableOf, contentsOf, policyCount, listedBy, policyFrom, policyAt}
 use Rattle.book.specs.Laws.Codec.{number-fits}
 use Rattle.book.specs.Laws.Books.{rowsAt, policiesAt, reply, good-layout}
@@ -72,7 +51,7 @@ use Rattle.book.specs.declared.Before.the-variants.{Nothing, Entry}
 use Rattle.book.specs.declared.Reading.{Reading}
 use Rattle.book.specs.declared.Place.{Place}
 use Rattle.book.specs.declared.Place.the-variants as place
-use Rattle.lines.specs.Text.{space, newline, comma, slash, dash, decimal, marked, joined}
+use Rattle.lines.specs.Text.{comma, slash, decimal, marked, joined}
 use Rattle.lines.specs.Lines.{verdictWord, names, setText, filled, crewsText, setsText, lineOf, badLine}
 use Rattle.lines.specs.Sheet.{allowance, staffOr0, staffOf, replyTo, lineBy, linesFrom, sheetBy, sheetOf, longest}
 use Rattle.lines.specs.Laws.Decimal.{decimal-length}

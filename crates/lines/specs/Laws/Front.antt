@@ -1,5 +1,5 @@
 -- 804 bytes of a book are enough: the longest has 803, and the reader's reply to a longer string is that to its first 804. Assumes nothing.
-use mathlib.Core.Path.{_≡_, refl, sym, ap, _∙_}
+use mathlib.Core.Path.{_≡_, sym, ap, _∙_}
 use mathlib.Core.Logic.{⊎-elim}
 use mathlib.Core.List.{List}
 use Prim.Native.Nat.{ℕ, _≤_}
@@ -7,7 +7,7 @@ use native.Mathlib.Omega.{arith}
 use lib.ListN.{length, take}
 use lib.Seq.{take-all}
 use borrow.Author.Tests.{ltb-false}
-use Rattle.book.specs.Reading.{countAt, past, readOf}
+use Rattle.book.specs.Reading.{countAt, past}
 use Rattle.book.specs.Laws.Books.{rowsAt, policiesAt, BookSound, Good, Refused, inside, reply}
 use Rattle.book.specs.Laws.Prefix.{prefix-reply}
 use Rattle.lines.specs.Sheet.{sheetBy, sheetOf}

@@ -1,9 +1,9 @@
 -- What was read stands within the book's buffer, and what was written within the sheet's, which is long enough. Assumes nothing.
-use mathlib.Core.Path.{_≡_, sym, ap, subst, _∙_}
-use mathlib.Core.List.{List, _++_}
+use mathlib.Core.Path.{_≡_, sym, ap, subst}
+use mathlib.Core.List.{List}
 use Prim.Native.Nat.{ℕ, _≤_}
 use native.Mathlib.Omega.{arith}
-use lib.ListN.{length, take, drop, replicate, length-append, length-replicate}
+use lib.ListN.{length, drop, replicate, length-append, length-replicate}
 use lib.Seq.{length-take-le}
 use Rattle.lines.specs.declared.Writing.{Writing}
 use Rattle.lines.specs.declared.Writing.the-variants.{Written}

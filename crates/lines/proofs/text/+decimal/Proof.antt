@@ -3,8 +3,7 @@
 use mathlib.Core.Path.{_≡_, sym, ap, subst, _∙_}
 use mathlib.Core.List.{List, [], _∷_, _++_}
 use native.Mathlib.Omega.{arith}
-use lib.ListN.{length, length-append}
-use Rattle.lines.specs.Text.{digit, Room, Appended}
+use Rattle.lines.specs.Text.{digit, Room}
 use Rattle.lines.specs.Text.{decimal as spelt}
 use Rattle.lines.specs.Laws.Decimal.{decimal-small, decimal-large}
 use Rattle.lines.proofs.Appends.{then, same, read-as, room, room-first}

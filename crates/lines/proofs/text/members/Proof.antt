@@ -1,11 +1,10 @@
 -- The loop takes the least member out of what is left and writes it after its mark. Its measure is how many members are left. Assumes nothing.
 use mathlib.Core.Path.{_≡_, sym, ap, subst, _∙_}
-use mathlib.Core.List.{List, [], _∷_, _++_}
+use mathlib.Core.List.{_∷_, _++_}
 use Prim.Native.Nat.{ℕ, _^_, _<_}
 use native.Mathlib.Omega.{arith}
-use borrow.Author.Needs.{needs}
 use lib.Bits.{bitXor}
-use lib.Count.{ones, trailingZeros}
+use lib.Count.{ones}
 use lib.ListN.{getD}
 use Rattle.sets.specs.Sets.{Least, trailing-least, drop-lt, ones-drop}
 use Rattle.lines.specs.Text.{comma, decimal, marked}
