@@ -7,7 +7,7 @@ use roster::Ruling;
 use roster::Table;
 use roster::Verdict;
 ghost use mathlib.Core.Path.{_≡_};
-ghost use Prim.Native.Nat.{_-_, _≤_, _<_, _^_};
+ghost use Prim.Native.Nat.{_<_};
 ghost use lib.Bits.{bitAnd, bitXor};
 ghost use lib.Count.{ones, trailingZeros};
 ghost use Rattle.roster.specs.Limits.{rowLimit, crewLimit};
