@@ -1,3 +1,5 @@
 pub mod Tried
 pub mod Asked
-pub mod Cases
+pub mod Replied
+pub mod Laws
+pub mod Examples

@@ -1,0 +1,5 @@
+pub mod Listed
+pub mod Weighed
+pub mod Decided
+pub mod Demands
+pub mod Same

@@ -1,0 +1,232 @@
+-- Laws of the looks and of the first fault. Assumes nothing.
+use mathlib.Core.Path.{_≡_, refl, sym, ap, _∙_}
+use mathlib.Core.Bool.{Bool, true, false}
+use mathlib.Core.Option.{Option}
+use mathlib.Core.List.{List, [], _∷_, _++_}
+use Prim.Native.Nat.{ℕ, zero, suc, _+_, _-_, _*_, _≤_, _<_}
+use native.Mathlib.Nat.{mul-suc, add-assoc}
+use native.Mathlib.Omega.{arith}
+use lib.Dec.{leb, ltb}
+use lib.ListN.{length, getD}
+use borrow.Author.Tests.{ltb-false, lt-ltb, le-ltb}
+use Rattle.roster.specs.Refusals.{madeOf}
+use Rattle.book.specs.Reading.{
+  Found,
+  number,
+  fieldsAt,
+  entryAt,
+  prior,
+  notAbove,
+  staffOf,
+  Kind,
+  faultIf,
+  wholeThen,
+  width,
+  countLook,
+  entryLook,
+  inTurn,
+  countAt,
+  sectionLooks,
+  past,
+  endLook,
+  firstFault,
+  codes,
+  rows,
+  policies,
+}
+use Rattle.book.specs.Steps.{leadIn, staysIn, outIn, countIn, madeAt, lookIn, widthIn, stepFrom, pastEntry, startAt, looksIn, pastIn, stepIn}
+use Rattle.book.proofs.Numbers.{number-1}
+use Rattle.book.specs.declared.Fault.{Fault}
+use Rattle.book.specs.declared.Section.{Section}
+use Rattle.book.specs.declared.Section.the-variants.{Permissions, Rows, Policies}
+use Rattle.book.specs.declared.Look.{Look}
+use Rattle.book.specs.declared.Look.the-variants.{Sound, Faulty}
+use Rattle.book.specs.declared.Before.{Before}
+use Rattle.book.specs.declared.Before.the-variants.{Nothing, Entry}
+use Rattle.book.specs.declared.Cursor.{Cursor}
+use Rattle.book.specs.declared.Step.{Step}
+use Rattle.book.specs.declared.Step.the-variants as step
+use Rattle.book.specs.declared.Reading.{Reading}
+use Rattle.book.specs.declared.Reading.the-variants as read
+use Rattle.book.specs.declared.Fault.the-variants as fault
+
+-- a reply, and that what was lent is as it was
+pub both : {A : Type 0} {lent : List ℕ} → A → A × (lent ≡ lent)
+both a = (a, refl)
+
+-- a fault that is there, and one that is not: the test's answer and what it means
+pub faulty : {b t : Bool} (f : Fault) (rest : Look) → b ≡ t → b ≡ true → Faulty f ≡ faultIf t f rest
+faulty f rest e taken = sym (ap (λ (x : Bool). faultIf x f rest) (sym e ∙ taken))
+
+pub faulty-as : {b t : Bool} {f g : Fault} (rest : Look) → b ≡ t → b ≡ true → f ≡ g → Faulty f ≡ faultIf t g rest
+faulty-as {g = g} rest e taken h = ap Faulty h ∙ faulty g rest e taken
+
+pub past-fault : {b t : Bool} (f : Fault) {rest : Look} {look : Look} → b ≡ t → b ≡ false → look ≡ rest → look ≡ faultIf t f rest
+past-fault f {rest} e left h = h ∙ sym (ap (λ (x : Bool). faultIf x f rest) (sym e ∙ left))
+
+-- the answer that nothing is cut
+pub uncut : {b : Bool} (len at wide : ℕ) → b ≡ ltb len (at + wide) → b ≡ false → at + wide ≤ len
+uncut len at wide e left = ltb-false _ _ (sym e ∙ left)
+
+-- whether a count is out of range, once the section is known
+pub out-by : {b : Bool} {t : Section} (s : Section) (n : ℕ) → s ≡ t → b ≡ outIn t n → b ≡ outIn s n
+out-by s n e h = h ∙ sym (ap (λ (x : Section). outIn x n) e)
+
+-- how the number that an entry starts with stands to the one before
+pub stays-by : {x y : ℕ} (section : Section) (book : List ℕ) (c : Cursor) (last : ℕ)
+    → c .before ≡ Entry last → x ≡ leadIn section book (c .at) → y ≡ leadIn section book last → leb x y ≡ staysIn section book c
+stays-by section book c last e hx hy =
+    rw (hx, hy) (sym (ap (λ (b : Before). notAbove (prior (leadIn section book) b) (leadIn section book (c .at))) e))
+
+-- the staff number of the row before is the number that it starts with
+staff-before : (book : List ℕ) (before : Before) → prior (number 4 book) before ≡ staffOf (prior (entryAt rows book) before)
+unfolding fieldsAt
+staff-before book Nothing = refl
+staff-before book (Entry at) = refl
+
+pub staff-stays : (book : List ℕ) (c : Cursor)
+    → staysIn Rows book c ≡ notAbove (staffOf (prior (entryAt rows book) (c .before))) (number 4 book (c .at))
+staff-stays book c = ap (λ (o : Option ℕ). notAbove o (number 4 book (c .at))) (staff-before book (c .before))
+
+-- what equal numbers make is equal
+pub made-of : {P P′ s s′ d d′ t t′ : ℕ} → P ≡ P′ → s ≡ s′ → d ≡ d′ → t ≡ t′ → madeOf P s d t ≡ madeOf P′ s′ d′ t′
+made-of eP es ed et = rw (eP, es, ed, et)
+
+-- what a policy's fields make
+pub made-at : (book : List ℕ) (at : ℕ)
+    → madeAt book at
+    ≡ madeOf (entryAt policies book at .task) (entryAt policies book at .away) (entryAt policies book at .crews) (entryAt policies book at .size)
+unfolding fieldsAt
+made-at book at = simp (number-1, add-assoc)
+
+-- a look that is sound has not this fault, and nothing after it
+pub not-faulty : (b : Bool) (f : Fault) (rest : Look) → faultIf b f rest ≡ Sound → (b ≡ false) × (rest ≡ Sound)
+not-faulty true f rest e = (cc, cc)
+not-faulty false f rest e = (refl, e)
+
+-- a sound look was at something whole
+pub whole : (book : List ℕ) (at wide : ℕ) (rest : Look) → wholeThen book at wide rest ≡ Sound → at + wide ≤ length book
+whole book at wide rest e = ltb-false _ _ (not-faulty _ _ _ e .0)
+
+pub whole-count : (section : Section) (book : List ℕ) (at : ℕ) → countIn section book at ≡ Sound → at + 1 ≤ length book
+whole-count section book at e = whole book at 1 _ e
+
+pub whole-entry : (section : Section) (book : List ℕ) (listed : ℕ) (before : Before) (at : ℕ)
+    → lookIn section book listed before at ≡ Sound → at + widthIn section ≤ length book
+unfolding entryLook
+whole-entry Permissions book listed before at e = whole book at _ _ e
+whole-entry Rows book listed before at e = whole book at _ _ e
+whole-entry Policies book listed before at e = whole book at _ _ e
+
+-- ---- one entry more
+
+module _ (look : Before → ℕ → Look) (wide : ℕ) (c : Cursor) where
+  -- none is left
+  pub step-none : (n : ℕ) → n ≤ 0 → stepFrom look wide c n ≡ step.Next (c .at)
+  unfolding stepFrom firstFault inTurn
+  step-none zero h = ap step.Next (omega arith)
+  step-none (suc n) h = let z : _≡_ {A = ℕ} 0 1 = omega arith in cc
+
+  -- a faulty entry ends it
+  pub step-faulty : (n : ℕ) (f : Fault) → 0 < n → look (c .before) (c .at) ≡ Faulty f → stepFrom look wide c n ≡ step.Refused f (c .at)
+  unfolding stepFrom firstFault inTurn
+  step-faulty zero f h e = let z : _≡_ {A = ℕ} 0 1 = omega arith in cc
+  step-faulty (suc n) f h e = rw e
+
+  -- a sound one is passed
+  pub step-sound : (n : ℕ) → 0 < n → look (c .before) (c .at) ≡ Sound → stepFrom look wide c n ≡ stepFrom look wide (pastEntry c wide) (n - 1)
+  unfolding stepFrom firstFault inTurn
+  step-sound zero h e = let z : _≡_ {A = ℕ} 0 1 = omega arith in cc
+  step-sound (suc n) h e =
+      let less : suc n - 1 ≡ n = omega arith in
+      let far : c .at + wide * suc n ≡ c .at + wide + wide * n = omega (arith, mul-suc wide n) in
+      rw (e, less) (rw far)
+
+-- ---- one section after the other
+
+-- the fault is in the first part, or the rest decides
+pub first-append : {R : Type 0} (refused : Fault → ℕ → R) (good : R) (l m : List Found)
+    → firstFault refused good (l ++ m) ≡ firstFault refused (firstFault refused good m) l
+unfolding firstFault
+first-append refused good [] m = refl
+first-append {R} refused good (x ∷ l) m =
+    ap (λ (t : R). elim (x .look) [ Sound ↦ t | Faulty f ↦ refused f (x .place) ]) (first-append refused good l m)
+
+module _ {R : Type 0} (refused : Fault → ℕ → R) (good : R) where
+  -- a fault that a step tells is the fault of the whole
+  refused-look : (n : ℕ) {f : Fault} {p : ℕ} (k : Look) (at : ℕ) (l : List Found)
+      → (firstFault step.Refused (step.Next n) l ≡ step.Refused f p → firstFault refused good l ≡ refused f p)
+      → elim k [ Sound ↦ firstFault step.Refused (step.Next n) l | Faulty g ↦ step.Refused g at ] ≡ step.Refused f p
+      → elim k [ Sound ↦ firstFault refused good l | Faulty g ↦ refused g at ] ≡ refused f p
+  refused-look n Sound at l ih e = ih e
+  refused-look n (Faulty g) at l ih e = cc
+
+  pub told-refused : (n : ℕ) {f : Fault} {p : ℕ} (l : List Found)
+      → firstFault step.Refused (step.Next n) l ≡ step.Refused f p → firstFault refused good l ≡ refused f p
+  unfolding firstFault
+  told-refused n [] e = let z : _≡_ {A = ℕ} 0 1 = cc in cc
+  told-refused n (x ∷ l) e = refused-look n (x .look) (x .place) l (told-refused n l) e
+
+  -- where a step goes on, nothing was at fault
+  next-look : {n m : ℕ} (k : Look) (at : ℕ) (l : List Found)
+      → (firstFault step.Refused (step.Next n) l ≡ step.Next m → (firstFault refused good l ≡ good) × (m ≡ n))
+      → elim k [ Sound ↦ firstFault step.Refused (step.Next n) l | Faulty g ↦ step.Refused g at ] ≡ step.Next m
+      → (elim k [ Sound ↦ firstFault refused good l | Faulty g ↦ refused g at ] ≡ good) × (m ≡ n)
+  next-look Sound at l ih e = ih e
+  next-look (Faulty g) at l ih e = let z : _≡_ {A = ℕ} 0 1 = cc in (cc, cc)
+
+  pub told-next : {n m : ℕ} (l : List Found)
+      → firstFault step.Refused (step.Next n) l ≡ step.Next m → (firstFault refused good l ≡ good) × (m ≡ n)
+  unfolding firstFault
+  told-next [] e = (refl, cc)
+  told-next (x ∷ l) e = next-look (x .look) (x .place) l (told-next l) e
+
+-- a section: its count, then its entries
+pub section-faulty : (section : Section) (book : List ℕ) (listed at : ℕ) (f : Fault)
+    → countIn section book at ≡ Faulty f → stepIn section book listed at ≡ step.Refused f at
+unfolding stepIn sectionLooks countLook firstFault
+section-faulty Permissions book listed at f e = rw e
+section-faulty Rows book listed at f e = rw e
+section-faulty Policies book listed at f e = rw e
+
+pub section-sound : (section : Section) (book : List ℕ) (listed at : ℕ) → countIn section book at ≡ Sound
+    → stepIn section book listed at
+    ≡ stepFrom (lookIn section book listed) (widthIn section) (startAt (at + 1)) (countAt book at)
+unfolding stepIn sectionLooks countLook firstFault stepFrom past
+section-sound Permissions book listed at e = rw e
+section-sound Rows book listed at e = rw e
+section-sound Policies book listed at e = rw e
+
+-- ---- from a section on
+
+module _ (section : Section) (book : List ℕ) (listed at : ℕ) (good : Reading) (rest : List Found) where
+  -- a section's fault is the book's
+  pub read-refused : {f : Fault} {p : ℕ} → stepIn section book listed at ≡ step.Refused f p
+      → firstFault read.Refused good (looksIn section book listed at ++ rest) ≡ read.Refused f p
+  unfolding stepIn
+  read-refused e =
+      first-append read.Refused good (looksIn section book listed at) rest
+      ∙ told-refused read.Refused _ (pastIn section book at) (looksIn section book listed at) e
+
+  -- past a section without fault the rest decides
+  pub read-on : {m : ℕ} → stepIn section book listed at ≡ step.Next m
+      → (firstFault read.Refused good (looksIn section book listed at ++ rest) ≡ firstFault read.Refused good rest) × (m ≡ pastIn section book at)
+  unfolding stepIn
+  read-on e =
+      let t = told-next read.Refused (firstFault read.Refused good rest) (looksIn section book listed at) e in
+      (first-append read.Refused good (looksIn section book listed at) rest ∙ t .0, t .1)
+
+-- what a step tells, once the number of listed permissions is known
+pub told : {r t : Step} (section : Section) (book : List ℕ) (at : ℕ) {n listed : ℕ}
+    → r ≡ stepIn section book n at → n ≡ listed → r ≡ t → stepIn section book listed at ≡ t
+told section book at e h w = ap (λ (x : ℕ). stepIn section book x at) (sym h) ∙ sym e ∙ w
+
+-- "bytes follow the policies", or none does
+pub end-excess : (book : List ℕ) (at : ℕ) (good : Reading) → at < length book
+    → firstFault read.Refused good (endLook book at ∷ []) ≡ read.Refused fault.Excess at
+unfolding firstFault
+end-excess book at good h = rw (lt-ltb at (length book) h)
+
+pub end-good : (book : List ℕ) (at : ℕ) (good : Reading) → length book ≤ at → firstFault read.Refused good (endLook book at ∷ []) ≡ good
+unfolding firstFault
+end-good book at good h = rw (le-ltb at (length book) h)

@@ -1,0 +1,25 @@
+-- The count of the section that starts where the reader says. Assumes nothing.
+use borrow.Author.Needs.{needs}
+use mathlib.Core.Path.{ap, _∙_}
+use Rattle.book.specs.Reading.{countAt}
+use Rattle.book.specs.Parts.{policyCount}
+use Rattle.book.specs.declared.Starts.{Starts}
+use Rattle.book.proofs.Looks.{both}
+use Rattle.book.proofs.policy_count.Statement.{statement}
+use Rattle.book.proofs.policy_count.Tie as tie
+
+starts-in-requires : tie.Need-starts-in-requires
+starts-in-requires c κs = search needs
+
+count-at-requires : tie.Need-count-at-requires
+count-at-requires c κs = search needs
+
+returns : tie.Need-returns
+unfolding policyCount
+returns c =
+    both (
+    let a = c .before .before .before .args in
+    c .count-at .ensures ∙ ap (λ (s : Starts). countAt (a .book .now) (s .policies)) (c .before .starts-in .ensures .0))
+
+pub policy-count-spec : {M : Type 1} → statement M
+policy-count-spec = tie.close (tie.spec starts-in-requires count-at-requires returns)

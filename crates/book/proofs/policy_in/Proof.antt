@@ -1,0 +1,71 @@
+-- What the fields at the policy's place make. Assumes nothing.
+use borrow.Author.Needs.{needs}
+use mathlib.Core.Path.{_≡_, sym, ap, _∙_}
+use native.Mathlib.Omega.{arith}
+use Rattle.book.specs.Parts.{listedBy, policyFrom}
+use Rattle.book.proofs.Looks.{both}
+use Rattle.book.proofs.Looks.{made-at}
+use Rattle.book.proofs.Places.{place-within}
+use Rattle.book.proofs.policy_in.Statement.{statement}
+use Rattle.book.proofs.policy_in.Tie as tie
+
+place-of-requires : tie.Need-place-of-requires
+place-of-requires c κs = search needs
+
+enum-known-at : tie.Need-enum-known-at
+enum-known-at c = search needs
+
+policy-from-requires : tie.Need-policy-from-requires
+policy-from-requires c κs =
+    let p = c .before .before .before in
+    let a = p .before .before .args in
+    let h = place-within 7 (a .book .now) (a .start) (a .i) (sym (p .place-of .ensures) ∙ c .before .at .given .1) in
+    omega arith
+
+enum-known-policy : tie.Need-enum-known-policy
+enum-known-policy c = search needs
+
+enum-told : tie.Need-enum-told
+enum-told c = search needs
+
+enum-told-2 : tie.Need-enum-told-2
+enum-told-2 c = search needs
+
+returns : tie.Need-returns
+returns c =
+    both (
+    let m = c .before .before .before in
+    let p = m .before .before .before .before in
+    let a = p .before .before .args in
+    ap listedBy (sym (c .before .policy .given .1) ∙ m .policy-from .ensures ∙ made-at (a .book .now) _)
+    ∙ ap (policyFrom (a .book .now)) (sym (m .before .before .at .given .1) ∙ p .place-of .ensures))
+
+returns-2 : tie.Need-returns-2
+returns-2 c =
+    both (
+    let m = c .before .before in
+    let p = m .before .before .before .before in
+    let a = p .before .before .args in
+    ap listedBy (sym (c .enum-told .given .1) ∙ m .policy-from .ensures ∙ made-at (a .book .now) _)
+    ∙ ap (policyFrom (a .book .now)) (sym (m .before .before .at .given .1) ∙ p .place-of .ensures))
+
+returns-3 : tie.Need-returns-3
+returns-3 c =
+    both (
+    let p = c .before .before in
+    let a = p .before .before .args in
+    ap (policyFrom (a .book .now)) (sym (c .enum-told2 .given .1) ∙ p .place-of .ensures))
+
+pub policy-in-spec : {M : Type 1} → statement M
+policy-in-spec =
+    tie.close
+    (tie.spec
+    place-of-requires
+    enum-known-at
+    policy-from-requires
+    enum-known-policy
+    enum-told
+    enum-told-2
+    returns
+    returns-2
+    returns-3)

@@ -1,0 +1,31 @@
+-- 01, "The roster book": the number of each fault. Nothing here is proved: these are definitions.
+use Prim.Native.Nat.{ℕ}
+use Rattle.roster.specs.Refusals.{numberOf}
+use Rattle.book.specs.declared.Fault.{Fault}
+use Rattle.book.specs.declared.Fault.the-variants.{
+  Short,
+  Permissions,
+  Code,
+  Rows,
+  Staff,
+  Holdings,
+  Policies,
+  Task,
+  Policy,
+  Excess,
+}
+
+-- "**11** the book ends before it is whole; then for counts **12** permissions not 1 to 32, **14** rows above 64, **17** policies above 32;
+-- for a code **13** not ascending; for a row **15** staff number not ascending, **16** a holding past the listed permissions; for a policy
+-- **18** P past the listed permissions, then 2, 3, 4, 5 as above. Last, **19** bytes follow the policies"
+abbrev pub faultNumber : Fault → ℕ
+faultNumber Short = 11
+faultNumber Permissions = 12
+faultNumber Code = 13
+faultNumber Rows = 14
+faultNumber Staff = 15
+faultNumber Holdings = 16
+faultNumber Policies = 17
+faultNumber Task = 18
+faultNumber (Policy refusal) = numberOf refusal
+faultNumber Excess = 19

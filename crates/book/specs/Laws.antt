@@ -1,0 +1,4 @@
+pub mod Codec
+pub mod Sections
+pub mod Values
+pub mod Books

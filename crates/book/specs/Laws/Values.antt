@@ -1,0 +1,200 @@
+-- The three kinds of entry: their values have no fault exactly if they are admitted. Assumes nothing.
+use mathlib.Core.Path.{_≡_, refl, sym, ap, _∙_}
+use mathlib.Core.Bool.{Bool, true, false}
+use mathlib.Core.Option.{Option, some, none}
+use mathlib.Core.List.{List, [], _∷_}
+use Prim.Native.Nat.{ℕ, zero, suc, _+_, _^_, _≤_, _<_}
+use native.Mathlib.Nat.{lt-of-lt-of-le}
+use native.Mathlib.Omega.{arith}
+use lib.Dec.{leb, ltb}
+use lib.ListN.{length}
+use lib.Pow.{pow-mono}
+use borrow.Author.Tests.{leb-false, lt-leb}
+use Rattle.roster.specs.Refusals.{policyRuling, madeOf, madeBy}
+use Rattle.roster.specs.Laws.Rulings.{policy-within}
+use Rattle.roster.specs.declared.Policy.{Policy}
+use Rattle.roster.specs.declared.Ruling.{Ruling}
+use Rattle.roster.specs.declared.Ruling.the-variants as ruling
+use Rattle.roster.specs.declared.Made.the-variants as made
+use Rattle.book.specs.Layout.{
+  Row,
+  codeFields,
+  rowFields,
+  policyFields,
+  permissionLimit,
+  Each,
+  Below,
+  Ascends,
+  PolicyFits,
+}
+use Rattle.book.specs.Reading.{
+  Kind,
+  fieldsAt,
+  faultIf,
+  notAbove,
+  pastListed,
+  codes,
+  rows,
+  policies,
+  staffOf,
+  byMade,
+}
+use Rattle.book.specs.Laws.Codec.{Fit}
+use Rattle.book.specs.Laws.Sections.{Codec, Fits, Faultless, not-faulty, no-fault}
+use Rattle.book.specs.declared.Fault.the-variants as fault
+use Rattle.book.specs.declared.Look.{Look}
+use Rattle.book.specs.declared.Look.the-variants.{Sound}
+
+-- ---- a value and its fields
+
+pub code-codec : Codec codes codeFields
+unfolding fieldsAt
+code-codec = record { back = λ x. refl; forth = λ book at. refl }
+
+pub row-codec : Codec rows rowFields
+unfolding fieldsAt
+row-codec = record { back = λ x. refl; forth = λ book at. refl }
+
+pub policy-codec : Codec policies policyFields
+unfolding fieldsAt
+policy-codec = record { back = λ x. refl; forth = λ book at. refl }
+
+-- ---- lists
+
+pub each : {A : Type 0} {P Q : A → Type 0} → ((x : A) → P x → Q x) → (l : List A) → Each P l → Each Q l
+unfolding Each
+each f [] h = tt
+each f (x ∷ l) h = (f x (h .0), each f l (h .1))
+
+pub each-both : {A : Type 0} (P Q : A → Type 0) (l : List A) → Each P l → Each Q l → Each (λ x. P x × Q x) l
+unfolding Each
+each-both P Q [] p q = tt
+each-both P Q (x ∷ l) p q = ((p .0, q .0), each-both P Q l (p .1) (q .1))
+
+each-free : {A : Type 0} (l : List A) → Each (λ x. Unit {0}) l
+unfolding Each
+each-free [] = tt
+each-free (x ∷ l) = (tt, each-free l)
+
+-- ---- faults: values that ascend by a number and have no further fault
+
+-- the entry before comes before the first
+abbrev pub After : {A : Type 0} → (A → ℕ) → Option A → List A → Type 0
+After key none l = Unit
+After key (some x) l = Below key x l
+
+module _ {A : Type 0} (kind : Kind A) (fields : A → List ℕ) (codec : Codec kind fields) (listed : ℕ) (key : A → ℕ) (more : A → Type 0)
+    (there : (before : Option A) (x : A) (l : List A) → kind .faults listed before x ≡ Sound → After key before (x ∷ l) × more x)
+    (back : (before : Option A) (x : A) (l : List A) → After key before (x ∷ l) → more x → kind .faults listed before x ≡ Sound) where
+  pub ascend : (before : Option A) (l : List A) → Faultless kind fields codec listed before l → After key before l × Ascends key l × Each more l
+  unfolding Faultless Ascends Each Below
+  ascend none [] h = (tt, tt, tt)
+  ascend (some y) [] h = (tt, tt, tt)
+  ascend before (x ∷ l) h =
+      let here = there before x l (h .0) in
+      let next = ascend (some x) l (h .1) in
+      (here .0, (next .0, next .1), (here .1, next .2))
+
+  pub ascending : (before : Option A) (l : List A) → After key before l → Ascends key l → Each more l → Faultless kind fields codec listed before l
+  unfolding Faultless Ascends Each
+  ascending before [] a s m = tt
+  ascending before (x ∷ l) a s m = (back before x l a (m .0), ascending (some x) l (s .0) (s .1) (m .1))
+
+code-there : (listed : ℕ) (before : Option ℕ) (x : ℕ) (l : List ℕ) → codes .faults listed before x ≡ Sound → After (λ c. c) before (x ∷ l) × Unit {0}
+unfolding Below
+code-there listed none x l e = (tt, tt)
+code-there listed (some y) x l e = (leb-false x y (not-faulty _ _ _ e .0), tt)
+
+code-back : (listed : ℕ) (before : Option ℕ) (x : ℕ) (l : List ℕ) → After (λ c. c) before (x ∷ l) → Unit {0} → codes .faults listed before x ≡ Sound
+unfolding Below
+code-back listed none x l a m = refl
+code-back listed (some y) x l a m = no-fault (leb x y) fault.Code Sound (lt-leb x y a) refl
+
+row-there : (listed : ℕ) (before : Option Row) (x : Row) (l : List Row) → rows .faults listed before x ≡ Sound
+    → After (λ row. row .staff) before (x ∷ l) × (x .holdings < 2 ^ listed)
+unfolding Below
+row-there listed none x l e = (tt, leb-false (2 ^ listed) (x .holdings) (not-faulty _ _ _ e .0))
+row-there listed (some y) x l e =
+    let first = not-faulty _ _ _ e in
+    (leb-false (x .staff) (y .staff) (first .0), leb-false (2 ^ listed) (x .holdings) (not-faulty _ _ _ (first .1) .0))
+
+row-back : (listed : ℕ) (before : Option Row) (x : Row) (l : List Row)
+    → After (λ row. row .staff) before (x ∷ l) → x .holdings < 2 ^ listed → rows .faults listed before x ≡ Sound
+unfolding Below
+row-back listed none x l a m = no-fault (pastListed listed (x .holdings)) fault.Holdings Sound (lt-leb (2 ^ listed) (x .holdings) m) refl
+row-back listed (some y) x l a m =
+    no-fault (leb (x .staff) (y .staff)) fault.Staff _ (lt-leb (x .staff) (y .staff) a)
+    (no-fault (pastListed listed (x .holdings)) fault.Holdings Sound (lt-leb (2 ^ listed) (x .holdings) m) refl)
+
+-- codes have no fault exactly if they ascend
+pub codes-sound : (listed : ℕ) (l : List ℕ) → Faultless codes codeFields code-codec listed none l → Ascends (λ c. c) l
+codes-sound listed l h = ascend codes codeFields code-codec listed (λ c. c) (λ c. Unit {0}) (code-there listed) (code-back listed) none l h .1
+
+pub sound-codes : (listed : ℕ) (l : List ℕ) → Ascends (λ c. c) l → Faultless codes codeFields code-codec listed none l
+sound-codes listed l a = ascending codes codeFields code-codec listed (λ c. c) (λ c. Unit {0}) (code-there listed) (code-back listed) none l tt a (each-free l)
+
+-- rows have none exactly if their staff numbers ascend and their holdings are within the listed permissions
+pub rows-sound : (listed : ℕ) (l : List Row) → Faultless rows rowFields row-codec listed none l
+    → Ascends (λ row. row .staff) l × Each (λ row. row .holdings < 2 ^ listed) l
+rows-sound listed l h =
+    let both = ascend rows rowFields row-codec listed (λ row. row .staff) (λ row. row .holdings < 2 ^ listed) (row-there listed) (row-back listed) none l h in
+    (both .1, both .2)
+
+pub sound-rows : (listed : ℕ) (l : List Row) → Ascends (λ row. row .staff) l → Each (λ row. row .holdings < 2 ^ listed) l
+    → Faultless rows rowFields row-codec listed none l
+sound-rows listed l a m =
+    ascending rows rowFields row-codec listed (λ row. row .staff) (λ row. row .holdings < 2 ^ listed) (row-there listed) (row-back listed) none l tt a m
+
+-- ---- policies
+
+-- what is made is a policy exactly if nothing is refused
+admitted : (r : Ruling) (p : Policy) → byMade (madeBy r p) ≡ Sound → r ≡ ruling.Admitted
+admitted ruling.Admitted p e = refl
+admitted (ruling.Refused refusal) p e = cc
+
+policy-there : (listed : ℕ) (before : Option Policy) (p : Policy) → policies .faults listed before p ≡ Sound → PolicyFits listed p
+policy-there listed before p e =
+    let first = not-faulty _ _ _ e in
+    record { task = leb-false (2 ^ listed) (p .task) (first .0); sound = admitted (policyRuling 0 (p .task) (p .away) (p .crews) (p .size)) p (first .1) }
+
+policy-back : (listed : ℕ) (before : Option Policy) (p : Policy) → PolicyFits listed p → policies .faults listed before p ≡ Sound
+policy-back listed before p f =
+    no-fault (pastListed listed (p .task)) fault.Task _ (lt-leb (2 ^ listed) (p .task) (f .task))
+    (ap (λ (r : Ruling). byMade (madeBy r p)) (f .sound))
+
+pub policies-sound : (listed : ℕ) (before : Option Policy) (l : List Policy) → Faultless policies policyFields policy-codec listed before l → Each (PolicyFits listed) l
+unfolding Faultless Each
+policies-sound listed before [] h = tt
+policies-sound listed before (p ∷ l) h = (policy-there listed before p (h .0), policies-sound listed (some p) l (h .1))
+
+pub sound-policies : (listed : ℕ) (before : Option Policy) (l : List Policy) → Each (PolicyFits listed) l → Faultless policies policyFields policy-codec listed before l
+unfolding Faultless Each
+sound-policies listed before [] h = tt
+sound-policies listed before (p ∷ l) h = (policy-back listed before p (h .0), sound-policies listed (some p) l (h .1))
+
+-- ---- widths: admitted values fit their fields
+
+pub code-fits : (code : ℕ) → code < 2 ^ 16 → Fits codes codeFields code-codec code
+unfolding Fit
+code-fits code h = (h, tt)
+
+pub fits-code : (code : ℕ) → Fits codes codeFields code-codec code → code < 2 ^ 16
+unfolding Fit
+fits-code code h = h .0
+
+pub row-fits : (listed : ℕ) → listed ≤ permissionLimit → (row : Row)
+    → (row .staff < 2 ^ 32) × (row .holdings < 2 ^ listed) → Fits rows rowFields row-codec row
+unfolding Fit
+row-fits listed few row h = (h .0, (lt-of-lt-of-le (h .1) (pow-mono few), tt))
+
+pub fits-row : (row : Row) → Fits rows rowFields row-codec row → row .staff < 2 ^ 32
+unfolding Fit
+fits-row row h = h .0
+
+pub policy-fits : (listed : ℕ) → listed ≤ permissionLimit → (p : Policy) → PolicyFits listed p → Fits policies policyFields policy-codec p
+unfolding Fit
+policy-fits listed few p f =
+    let w = policy-within 0 (p .task) (p .away) (p .crews) (p .size) (f .sound) in (
+      lt-of-lt-of-le (f .task) (pow-mono few),
+      (omega (arith, w .away), (omega (arith, w .few), (omega (arith, w .small), tt))),
+    )

@@ -1,0 +1,115 @@
+-- 01, "The roster book": the bytes of a book as a function of its permissions, rows and policies, and which values are admitted. A good book
+-- is the layout of admitted values. Nothing here is proved: these are definitions.
+use mathlib.Core.Path.{_≡_}
+use mathlib.Core.List.{List, [], _∷_, _++_}
+use Prim.Native.Nat.{ℕ, zero, suc, _+_, _/_, _%_, _^_, _≤_, _<_}
+use lib.ListN.{length}
+use Rattle.roster.specs.Limits.{rowLimit}
+use Rattle.roster.specs.Refusals.{policyRuling}
+use Rattle.roster.specs.declared.Ruling.the-variants as ruling
+use Rattle.roster.specs.declared.Policy.{Policy}
+
+-- "Permissions, 1 to 32"
+abbrev pub permissionLimit : ℕ
+permissionLimit = 32
+
+-- "Policies, 0 to 32"
+abbrev pub policyLimit : ℕ
+policyLimit = 32
+
+-- The widths of an entry's fields in bytes, in their order. "a 2-byte code each"
+abbrev pub codeWidths : List ℕ
+codeWidths = 2 ∷ []
+
+-- "4-byte staff number, 4-byte holdings"
+abbrev pub rowWidths : List ℕ
+rowWidths = 4 ∷ 4 ∷ []
+
+-- "4-byte P, then s, d, t in a byte each"
+abbrev pub policyWidths : List ℕ
+policyWidths = 4 ∷ 1 ∷ 1 ∷ 1 ∷ []
+
+-- a row of the book
+pub record Row : Type 0 where
+  pub staff : ℕ
+  pub holdings : ℕ
+
+-- the values of a book: "The i-th code is bit i."
+pub record Contents : Type 0 where
+  pub codes : List ℕ
+  pub rows : List Row
+  pub policies : List Policy
+
+-- "Numbers are little endian."
+unfoldable pub littleEndian : ℕ → ℕ → List ℕ
+littleEndian zero x = []
+littleEndian (suc w) x = x % 256 ∷ littleEndian w (x / 256)
+
+-- the fields of an entry one after the other, each as wide as its place in the list of widths says
+unfoldable pub fieldBytes : List ℕ → List ℕ → List ℕ
+fieldBytes [] xs = []
+fieldBytes (w ∷ ws) [] = []
+fieldBytes (w ∷ ws) (x ∷ xs) = littleEndian w x ++ fieldBytes ws xs
+
+abbrev pub codeFields : ℕ → List ℕ
+codeFields code = code ∷ []
+
+abbrev pub rowFields : Row → List ℕ
+rowFields row = row .staff ∷ row .holdings ∷ []
+
+abbrev pub policyFields : Policy → List ℕ
+policyFields p = p .task ∷ p .away ∷ p .crews ∷ p .size ∷ []
+
+-- the entries one after the other
+unfoldable pub joined : {A : Type 0} → (A → List ℕ) → List A → List ℕ
+joined bytes [] = []
+joined bytes (x ∷ l) = bytes x ++ joined bytes l
+
+-- "each after its count in one byte"
+abbrev pub section : {A : Type 0} → List ℕ → (A → List ℕ) → List A → List ℕ
+section widths fields l = length l ∷ joined (λ x. fieldBytes widths (fields x)) l
+
+-- "three sections in a fixed order"
+unfoldable pub bytesOf : Contents → List ℕ
+bytesOf v =
+    section codeWidths codeFields (v .codes)
+    ++ (section rowWidths rowFields (v .rows)
+    ++ section policyWidths policyFields (v .policies))
+
+-- each of the list is so
+unfoldable pub Each : {A : Type 0} → (A → Type 0) → List A → Type 0
+Each P [] = Unit
+Each P (x ∷ l) = P x × Each P l
+
+-- x comes before the first of the list, if it has one
+unfoldable pub Below : {A : Type 0} → (A → ℕ) → A → List A → Type 0
+Below key x [] = Unit
+Below key x (y ∷ l) = key x < key y
+
+-- "strictly ascending", by this number of each
+unfoldable pub Ascends : {A : Type 0} → (A → ℕ) → List A → Type 0
+Ascends key [] = Unit
+Ascends key (x ∷ l) = Below key x l × Ascends key l
+
+-- What a policy of the book may be: P within the listed permissions, and none of the faults 2, 3, 4, 5.
+pub record PolicyFits (listed : ℕ) (p : Policy) : Type 0 where
+  pub task : p .task < 2 ^ listed
+  pub sound : policyRuling 0 (p .task) (p .away) (p .crews) (p .size) ≡ ruling.Admitted
+
+-- Which values a book may have, a field for each rule.
+pub record Admitted (v : Contents) : Type 0 where
+  pub some : 1 ≤ length (v .codes)
+  pub permissions : length (v .codes) ≤ permissionLimit
+  pub rows : length (v .rows) ≤ rowLimit
+  pub policies : length (v .policies) ≤ policyLimit
+  pub codes : Each (λ code. code < 2 ^ 16) (v .codes)
+  pub codesAscend : Ascends (λ code. code) (v .codes)
+  pub staff : Each (λ row. row .staff < 2 ^ 32) (v .rows)
+  pub staffAscends : Ascends (λ row. row .staff) (v .rows)
+  pub holdings : Each (λ row. row .holdings < 2 ^ length (v .codes)) (v .rows)
+  pub sound : Each (PolicyFits (length (v .codes))) (v .policies)
+
+-- the book is the layout of these values, and they are admitted
+pub record LayoutOf (v : Contents) (book : List ℕ) : Type 0 where
+  pub admitted : Admitted v
+  pub bytes : book ≡ bytesOf v

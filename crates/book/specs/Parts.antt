@@ -1,0 +1,129 @@
+-- 01, "The roster book": what a book's parts are, for every byte string: the table, the policies, and staff number and holdings by row. A
+-- refused book has no parts: its sections are taken to start at its end, where no count stands. Nothing here is proved: these are definitions.
+use mathlib.Core.Path.{_≡_}
+use mathlib.Core.Bool.{Bool, true, false}
+use mathlib.Core.List.{List, [], _∷_}
+use Prim.Native.Nat.{ℕ, zero, suc, _+_, _*_}
+use lib.Dec.{leb, ltb}
+use lib.ListN.{length, getD}
+use Rattle.roster.specs.Limits.{rowLimit}
+use Rattle.roster.specs.Refusals.{madeOf}
+use Rattle.roster.specs.declared.Made.{Made}
+use Rattle.roster.specs.declared.Made.the-variants as made
+use Rattle.roster.specs.declared.Policy.{Policy}
+use Rattle.roster.specs.declared.Table.{Table}
+use Rattle.book.specs.Layout.{Row, Contents}
+use Rattle.book.specs.Reading.{
+  Kind,
+  codes,
+  rows,
+  policies,
+  width,
+  entryAt,
+  countAt,
+  past,
+  readOf,
+}
+use Rattle.book.specs.declared.Reading.{Reading}
+use Rattle.book.specs.declared.Reading.the-variants.{Good, Refused}
+use Rattle.book.specs.declared.Starts.{Starts}
+use Rattle.book.specs.declared.Place.{Place}
+use Rattle.book.specs.declared.Place.the-variants as place
+use Rattle.book.specs.declared.Staff.{Staff}
+use Rattle.book.specs.declared.Staff.the-variants as staff
+use Rattle.book.specs.declared.Holdings.{Holdings}
+use Rattle.book.specs.declared.Holdings.the-variants as holdings
+use Rattle.book.specs.declared.Listed.{Listed}
+use Rattle.book.specs.declared.Listed.the-variants as listed
+
+-- ---- the values of a book
+
+-- n entries from this place on
+unfoldable pub entriesAt : {A : Type 0} → Kind A → List ℕ → ℕ → ℕ → List A
+entriesAt kind book at zero = []
+entriesAt kind book at (suc n) = entryAt kind book at ∷ entriesAt kind book (at + width kind) n
+
+-- the values of the section that starts here
+abbrev pub valuesAt : {A : Type 0} → Kind A → List ℕ → ℕ → List A
+valuesAt kind book at = entriesAt kind book (at + 1) (countAt book at)
+
+-- the values that a good book is the layout of
+unfoldable pub contentsOf : List ℕ → Contents
+contentsOf book = record {
+  codes = valuesAt codes book 0;
+  rows = valuesAt rows book (past codes book 0);
+  policies = valuesAt policies book (past rows book (past codes book 0));
+}
+
+-- ---- its parts by place
+
+-- where the sections are taken to start, of a refused book too
+abbrev pub startsBy : List ℕ → Reading → Starts
+startsBy book (Good starts) = starts
+startsBy book (Refused fault at) = record { permissions = length book; rows = length book; policies = length book }
+
+unfoldable pub startsIn : List ℕ → Starts
+startsIn book = startsBy book (readOf book)
+
+-- where the i-th entry of this width stands in the section that starts here, if it has one
+unfoldable pub placeOf : ℕ → List ℕ → ℕ → ℕ → Place
+placeOf wide book start i =
+    let at = start + 1 + wide * i in
+    elim (leb (countAt book start) i) [
+      | true ↦ place.Nothing
+      | false ↦ elim (ltb (length book) (at + wide)) [ true ↦ place.Nothing | false ↦ place.At at ]
+    ]
+
+-- "a view over it answers staff number and holdings by row; past the last row it answers "no such row""
+abbrev pub staffFrom : List ℕ → Place → Staff
+staffFrom book (place.At at) = staff.Number (entryAt rows book at .staff)
+staffFrom book place.Nothing = staff.NoSuchRow
+
+abbrev pub staffAt : List ℕ → ℕ → ℕ → Staff
+staffAt book start row = staffFrom book (placeOf (width rows) book start row)
+
+abbrev pub holdingsFrom : List ℕ → Place → Holdings
+holdingsFrom book (place.At at) = holdings.Held (entryAt rows book at .holdings)
+holdingsFrom book place.Nothing = holdings.NoSuchRow
+
+abbrev pub holdingsAt : List ℕ → ℕ → ℕ → Holdings
+holdingsAt book start row = holdingsFrom book (placeOf (width rows) book start row)
+
+-- ---- the table and the policies
+
+-- a row that is not there holds nothing
+abbrev pub heldOr0 : Holdings → ℕ
+heldOr0 (holdings.Held held) = held
+heldOr0 holdings.NoSuchRow = 0
+
+-- what f is at each number from i on, n of them
+unfoldable pub upFrom : ℕ → ℕ → (ℕ → ℕ) → List ℕ
+upFrom i zero f = []
+upFrom i (suc n) f = f i ∷ upFrom (suc i) n f
+
+-- "The table is one value that carries all 64 holdings and its row count"
+unfoldable pub tableOf : List ℕ → Table
+tableOf book = record {
+  holdings = upFrom 0 rowLimit (λ row. heldOr0 (holdingsAt book (startsIn book .rows) row));
+  rows = countAt book (startsIn book .rows);
+}
+
+unfoldable pub policyCount : List ℕ → ℕ
+policyCount book = countAt book (startsIn book .policies)
+
+abbrev pub listedBy : Made → Listed
+listedBy (made.Policy p) = listed.Policy p
+listedBy (made.Refused refusal) = listed.NoSuchPolicy
+
+abbrev pub policyFrom : List ℕ → Place → Listed
+policyFrom book (place.At at) =
+    let p = entryAt policies book at in
+    listedBy (madeOf (p .task) (p .away) (p .crews) (p .size))
+policyFrom book place.Nothing = listed.NoSuchPolicy
+
+-- the i-th policy of the section that starts here
+abbrev pub policyIn : List ℕ → ℕ → ℕ → Listed
+policyIn book start i = policyFrom book (placeOf (width policies) book start i)
+
+unfoldable pub policyAt : List ℕ → ℕ → Listed
+policyAt book i = policyIn book (startsIn book .policies) i

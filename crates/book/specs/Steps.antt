@@ -1,0 +1,114 @@
+-- The reader's own steps, by the section's name: what its functions answer. Reading is what they come to. Nothing here is proved: these are
+-- definitions.
+use mathlib.Core.Bool.{Bool, true, false}
+use mathlib.Core.List.{List, [], _∷_, _++_}
+use Prim.Native.Nat.{ℕ, _+_, _*_}
+use lib.ListN.{getD}
+use Rattle.roster.specs.Refusals.{madeOf}
+use Rattle.roster.specs.declared.Made.{Made}
+use Rattle.book.specs.Reading.{
+  number,
+  Found,
+  notAbove,
+  prior,
+  codes,
+  rows,
+  policies,
+  width,
+  faultIf,
+  wholeThen,
+  countAt,
+  entryLook,
+  inTurn,
+  sectionLooks,
+  past,
+  looksFromPolicies,
+  looksFromRows,
+  firstFault,
+}
+use Rattle.book.specs.declared.Section.{Section}
+use Rattle.book.specs.declared.Section.the-variants.{Permissions, Rows, Policies}
+use Rattle.book.specs.declared.Fault.{Fault}
+use Rattle.book.specs.declared.Look.{Look}
+use Rattle.book.specs.declared.Look.the-variants.{Sound}
+use Rattle.book.specs.declared.Before.{Before}
+use Rattle.book.specs.declared.Before.the-variants.{Nothing}
+use Rattle.book.specs.declared.Cursor.{Cursor}
+use Rattle.book.specs.declared.Before.the-variants as before
+use Rattle.book.specs.declared.Step.{Step}
+use Rattle.book.specs.declared.Step.the-variants as step
+use Rattle.book.specs.declared.Reading.{Reading}
+use Rattle.book.specs.declared.Reading.the-variants as read
+
+abbrev pub widthIn : Section → ℕ
+widthIn Permissions = width codes
+widthIn Rows = width rows
+widthIn Policies = width policies
+
+-- the number that an entry starts with: a code, a staff number, P
+abbrev pub leadIn : Section → List ℕ → ℕ → ℕ
+leadIn Permissions book at = number 2 book at
+leadIn Rows book at = number 4 book at
+leadIn Policies book at = number 4 book at
+
+-- it is not above that of the entry before
+abbrev pub staysIn : Section → List ℕ → Cursor → Bool
+staysIn section book c = notAbove (prior (leadIn section book) (c .before)) (leadIn section book (c .at))
+
+-- the counts that are out of range, and their fault
+abbrev pub outIn : Section → ℕ → Bool
+outIn Permissions = codes .outOfRange
+outIn Rows = rows .outOfRange
+outIn Policies = policies .outOfRange
+
+abbrev pub countFaultIn : Section → Fault
+countFaultIn Permissions = codes .countFault
+countFaultIn Rows = rows .countFault
+countFaultIn Policies = policies .countFault
+
+abbrev pub countIn : Section → List ℕ → ℕ → Look
+countIn section book at = wholeThen book at 1 (faultIf (outIn section (countAt book at)) (countFaultIn section) Sound)
+
+-- what the fields of a policy at this place make
+abbrev pub madeAt : List ℕ → ℕ → Made
+madeAt book at = madeOf (number 4 book at) (getD book (at + 4) 0) (getD book (at + 5) 0) (getD book (at + 6) 0)
+
+abbrev pub lookIn : Section → List ℕ → ℕ → Before → ℕ → Look
+lookIn Permissions = entryLook codes
+lookIn Rows = entryLook rows
+lookIn Policies = entryLook policies
+
+-- past an entry of this width
+abbrev pub pastEntry : Cursor → ℕ → Cursor
+pastEntry c wide = record { before = before.Entry (c .at); at = c .at + wide }
+
+-- n entries from this cursor on
+unfoldable pub stepFrom : (Before → ℕ → Look) → ℕ → Cursor → ℕ → Step
+stepFrom look wide c n =
+    firstFault step.Refused (step.Next (c .at + wide * n)) (inTurn look wide (c .before) (c .at) n)
+
+abbrev pub startAt : ℕ → Cursor
+startAt at = record { before = Nothing; at = at }
+
+-- a whole section
+abbrev pub looksIn : Section → List ℕ → ℕ → ℕ → List Found
+looksIn Permissions = sectionLooks codes
+looksIn Rows = sectionLooks rows
+looksIn Policies = sectionLooks policies
+
+abbrev pub pastIn : Section → List ℕ → ℕ → ℕ
+pastIn Permissions = past codes
+pastIn Rows = past rows
+pastIn Policies = past policies
+
+unfoldable pub stepIn : Section → List ℕ → ℕ → ℕ → Step
+stepIn section book listed at = firstFault step.Refused (step.Next (pastIn section book at)) (looksIn section book listed at)
+
+-- what is left of the reading once the rows start here, and once the policies do
+unfoldable pub readPolicies : List ℕ → ℕ → ℕ → Reading
+readPolicies book rowsAt at =
+    firstFault read.Refused (read.Good (record { permissions = 0; rows = rowsAt; policies = at })) (looksFromPolicies book at)
+
+unfoldable pub readRows : List ℕ → ℕ → Reading
+readRows book at =
+    firstFault read.Refused (read.Good (record { permissions = 0; rows = at; policies = past rows book at })) (looksFromRows book at)
