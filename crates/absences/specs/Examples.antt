@@ -12,14 +12,16 @@ use Rattle.sets.specs.Sets.{bit}
 use Rattle.sets.specs.Sums.{sumTo, toN}
 use Rattle.sets.specs.Members.{cons?, members, filter, hasb, setOf}
 use Rattle.roster.specs.declared.Table.{Table}
-use Rattle.roster.specs.declared.Verdict.the-variants.{Yes, No, Undecided}
+use Rattle.roster.specs.declared.Verdict.the-variants.{Yes, No, Undecided, Crews, None}
 use Rattle.roster.specs.declared.Reply.{Reply}
 use Rattle.roster.specs.Limits.{rowLimit, crewLimit}
 use Rattle.roster.specs.Meaning.{ahead, rank}
-use Rattle.roster.specs.Refusals.{policyRuling}
+use Rattle.roster.specs.Refusals.{policyRuling, namedRuling}
 use Rattle.roster.specs.Replies.{noCrews}
 use Rattle.roster.specs.Laws.Rank.{outweighsb}
 use Rattle.crews.specs.Filling.{placeOf, closeOf, placedOf, candidates, tryEach, search}
+use Rattle.crews.specs.Named.{NamedReply}
+use Rattle.crews.specs.Laws.Allowed.{namedReplyOf, named-allowed}
 use Rattle.absences.specs.Tried.{rowFrom, Way, full, skipping, joins, listed, sizesFrom, weighed}
 use Rattle.absences.specs.Asked.{PolicyReply}
 use Rattle.absences.specs.Replied.{policyReplyOf}
@@ -27,9 +29,11 @@ use Rattle.absences.specs.Laws.Demands.{policy-allowed}
 
 -- ---- how the table is written
 
--- a question of either kind: "P = 3; 1,2,2 skipping" is `policy skipping H 3 1 2 2`, and the allowance follows
+-- A question of either kind: "H; 1,2,2 skipping" is `policy skipping H 3 1 2 2`, and "H, absent {0}, d 2, t 2" is `named H 3 2 2` and that set;
+-- the allowance follows.
 pub data Question : Type 0 where
   policy : Way → (table : Table) (P s d t allowance : ℕ) → Question
+  named : (table : Table) (P d t A allowance : ℕ) → Question
 
 pub record Example : Type 0 where
   pub question : Question
@@ -55,6 +59,12 @@ yes-with crews units = record { verdict = Yes; crews = crewsOf crews crewLimit; 
 
 abbrev pub no-with : List ℕ → ℕ → Reply
 no-with blocker units = record { verdict = No; crews = noCrews; blocker = setOfRows blocker; units = units }
+
+abbrev pub crews-with : List (List ℕ) → ℕ → Reply
+crews-with crews units = record { verdict = Crews; crews = crewsOf crews crewLimit; blocker = 0; units = units }
+
+abbrev pub none-with : ℕ → Reply
+none-with units = record { verdict = None; crews = noCrews; blocker = 0; units = units }
 
 abbrev pub undecided-with : ℕ → Reply
 undecided-with units = record { verdict = Undecided; crews = noCrews; blocker = 0; units = units }
@@ -89,6 +99,15 @@ by-either way =
     ∷ record { question = policy way (tableOf (1 ∷ [])) 1 64 1 1 ample; reply = no-with (0 ∷ []) 3 }
     ∷ []
 
+-- rows l and m
+abbrev pub by-name : List Example
+by-name =
+    -- l
+    record { question = named H 3 2 2 (setOfRows (0 ∷ [])) ample; reply = crews-with ((1 ∷ 2 ∷ []) ∷ (3 ∷ []) ∷ []) 3 }
+    -- m
+    ∷ record { question = named H 3 2 2 (setOfRows (0 ∷ 3 ∷ [])) ample; reply = none-with 2 }
+    ∷ []
+
 abbrev pub examples : List Example
 examples =
     -- a
@@ -101,14 +120,14 @@ examples =
     ∷ record { question = policy full H 3 2 2 2 ample; reply = no-with (0 ∷ 3 ∷ []) 22 }
     -- e: "c with allowance 10"
     ∷ record { question = policy skipping H 3 2 2 2 10; reply = undecided-with 10 }
-    ∷ by-either skipping
-    ++ by-either full
+    ∷ (by-either skipping ++ by-either full ++ by-name)
 
 -- ---- the fact
 
 -- the contract of the question allows this reply
 abbrev pub Allowed : Question → Reply → Type 0
 Allowed (policy way table P s d t allowance) r = PolicyReply way table P s d t allowance r
+Allowed (named table P d t A allowance) r = NamedReply table P d t A allowance r
 
 abbrev pub AllAllowed : List Example → Type 0
 AllAllowed [] = Unit {0}
@@ -117,12 +136,15 @@ AllAllowed (e ∷ rest) = Allowed (e .question) (e .reply) × AllAllowed rest
 -- what the definition replies, and whether the task has 32 bits
 abbrev replyOf : Question → Reply
 replyOf (policy way table P s d t allowance) = policyReplyOf way table P s d t allowance
+replyOf (named table P d t A allowance) = namedReplyOf table P d t A allowance
 
 abbrev narrow : Question → Bool
 narrow (policy way table P s d t allowance) = ltb P (2 ^ 32)
+narrow (named table P d t A allowance) = ltb P (2 ^ 32)
 
 allowed : (q : Question) → narrow q ≡ true → Allowed q (replyOf q)
 allowed (policy way table P s d t allowance) w = policy-allowed way table P s d t (ltb-true P (2 ^ 32) w) allowance
+allowed (named table P d t A allowance) w = named-allowed table P d t A allowance (ltb-true P (2 ^ 32) w)
 
 -- where the definition gives the replies of a list, they are allowed
 all-allowed : (l : List Example)
@@ -136,5 +158,5 @@ all-allowed (e ∷ rest) w r =
 
 -- each reply of the table is the one allowed
 pub examples-hold : AllAllowed examples
-unfolding bit sumTo toN cons? members filter hasb setOf ones onesIn trailingZeros ahead rank outweighsb placeOf closeOf placedOf candidates tryEach search rowFrom joins listed sizesFrom weighed policyRuling policyReplyOf
+unfolding bit sumTo toN cons? members filter hasb setOf ones onesIn trailingZeros ahead rank outweighsb placeOf closeOf placedOf candidates tryEach search rowFrom joins listed sizesFrom weighed policyRuling namedRuling policyReplyOf
 examples-hold = all-allowed examples refl refl

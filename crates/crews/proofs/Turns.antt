@@ -16,7 +16,7 @@ use Rattle.sets.specs.Laws.Drop.{drop-sub, drop-lt, ones-drop}
 use Rattle.sets.specs.Laws.Members.{members-empty, members-least}
 use Rattle.roster.specs.Replies.{noCrews}
 use Rattle.crews.specs.declared.Filling.{Filling}
-use Rattle.crews.specs.declared.Ending.the-variants.{Complete, Exhausted, Undecided}
+use Rattle.crews.specs.declared.Ending.the-variants.{Exhausted, Undecided}
 use Rattle.crews.specs.declared.Filled.{Filled}
 use Rattle.crews.specs.Filling.{Work, Outcome, crewOf, missingOf, placeOf, closeOf, placedOf, tryEach, search, plainly}
 use Rattle.crews.specs.Filled.{at, filledOf, closedWhere, Ready}
@@ -135,11 +135,8 @@ module _ (holds holders : List ℕ) (task crews size : ℕ) (f : Filling) (spent
             ∙ ap (filledOf allowance (units + 1))
             (ap₂ (λ (k : ℕ) (x : Filling). search k rule x) n (sym (step.placed-plainly (at holds) (at holders) task crews size f row)))
 
-        pub complete-here : r .ending ≡ Complete → r ≡ answer
-        complete-here v = step.turn-complete deeper rule f row others allowance units r said v ∙ sym first
-
-        pub undecided-here : r .ending ≡ Undecided → r ≡ answer
-        undecided-here v = step.turn-undecided deeper rule f row others allowance units r said v ∙ sym first
+        pub ended-here : r .ending ≢ Exhausted → r ≡ answer
+        ended-here v = step.turn-ended deeper rule f row others allowance units r said v ∙ sym first
 
         pub exhausted-here : r .ending ≡ Exhausted → Going (bitXor rest bitOf) (r .units)
         exhausted-here v =

@@ -30,12 +30,15 @@ abbrev pub endingOf : Bool → Ending
 endingOf true = Complete
 endingOf false = Exhausted
 
+abbrev pub filledWith : Ending → List ℕ → ℕ → Filled
+filledWith ending crews units = record { ending = ending; crews = crews; units = units }
+
 -- what is answered of an outcome where `spent` units are spent already: "undecided, exactly if allowance < need", then units are the allowance
 unfoldable pub filledOf : ℕ → ℕ → Outcome → Filled
 filledOf allowance spent o =
     elim (leb (spent + o .need) allowance) [
-      | true ↦ record { ending = endingOf (o .found); crews = o .crews; units = spent + o .need }
-      | false ↦ record { ending = Undecided; crews = noCrews; units = allowance }
+      | true ↦ filledWith (endingOf (o .found)) (o .crews) (spent + o .need)
+      | false ↦ filledWith Undecided noCrews allowance
     ]
 
 -- the search from these free rows; a reply has no room for more crews than the limit, and none are looked for

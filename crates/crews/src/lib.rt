@@ -12,7 +12,9 @@ ghost use lib.Bits.{bitAnd, bitXor};
 ghost use lib.Count.{ones, trailingZeros};
 ghost use Rattle.roster.specs.Limits.{rowLimit, crewLimit};
 ghost use Rattle.crews.specs.Filling.{placeOf, closeOf, begin, search, plainly, holdsOf, holdersOf};
-ghost use Rattle.crews.specs.Filled.{tabulate, at, filledOf, closedWhere, foundFrom, repliedOf, Ready};
+ghost use Rattle.crews.specs.Filled.{tabulate, at, filledWith, filledOf, closedWhere, foundFrom, repliedOf, Ready};
+ghost use Rattle.roster.specs.Replies.{noCrews};
+ghost use Rattle.crews.specs.declared.Ending.the-variants.{Complete};
 ghost use Rattle.crews.specs.Named.{NamedReply};
 
 // The half-filled crews: those closed and the one being filled, the rows neither absent nor placed, and what the crew being filled holds.
@@ -92,6 +94,31 @@ impl Filling {
             f
         }
     }
+
+    // The crews as a complete list.
+    fn complete(self, units: u32) -> Filled
+        ensures { λ r. ⌜ r ≡ filledWith Complete (self .crews) units ⌝ }
+    {
+        let crews = self.crews;
+        Filled {
+            ending: Ending::Complete,
+            crews: crews,
+            units: units,
+        }
+    }
+}
+
+impl Filled {
+    // No list, for one reason or the other.
+    fn without_crews(ending: Ending, units: u32) -> Filled
+        ensures { λ r. ⌜ r ≡ filledWith ending noCrews units ⌝ }
+    {
+        Filled {
+            ending: ending,
+            crews: [0; Policy::CREWS],
+            units: units,
+        }
+    }
 }
 
 // What of the task is not held.
@@ -129,59 +156,28 @@ fn fill_on(
     let list = f.crews;
     let closed = f.closed;
     if closed == crews {
-        return Filled {
-            ending: Ending::Complete,
-            crews: list,
-            units: spent,
-        };
+        return f.complete(spent);
     }
     if sets::size(list[closed]) >= size {
-        return Filled {
-            ending: Ending::Exhausted,
-            crews: [0; Policy::CREWS],
-            units: spent,
-        };
+        return Filled::without_crews(Ending::Exhausted, spent);
     }
     let mut rest = candidates(holders, missing(task, f.held), f.free);
     let mut units = spent;
     while rest != 0 {
         if units >= allowance {
-            return Filled {
-                ending: Ending::Undecided,
-                crews: [0; Policy::CREWS],
-                units: allowance,
-            };
+            return Filled::without_crews(Ending::Undecided, allowance);
         }
         let row = sets::least(rest) as usize;
         rest = rest ^ (1u64 << row);
-        let filled = fill_on(
-            holds,
-            holders,
-            task,
-            crews,
-            size,
-            f.placed(row, holds[row], task),
-            units + 1,
-            allowance,
-        );
+        let g = f.placed(row, holds[row], task);
+        let filled = fill_on(holds, holders, task, crews, size, g, units + 1, allowance);
         let ending = filled.ending;
-        match ending {
-            Ending::Exhausted => {
-                units = filled.units;
-            }
-            Ending::Complete => {
-                return filled;
-            }
-            Ending::Undecided => {
-                return filled;
-            }
-        }
+        let Ending::Exhausted = ending else {
+            return filled;
+        };
+        units = filled.units;
     }
-    Filled {
-        ending: Ending::Exhausted,
-        crews: [0; Policy::CREWS],
-        units: units,
-    }
+    Filled::without_crews(Ending::Exhausted, units)
 }
 
 // The crews filled from the free rows, where `spent` units are spent already. More crews than a reply has room for are not looked for.
@@ -198,18 +194,10 @@ pub fn fill(
     ensures { λ r. ⌜ r ≡ filledOf allowance spent (foundFrom (plainly (at (now (holds .entry))) (at (now (holders .entry))) task crews size) free) ⌝ }
 {
     if spent > allowance {
-        return Filled {
-            ending: Ending::Undecided,
-            crews: [0; Policy::CREWS],
-            units: allowance,
-        };
+        return Filled::without_crews(Ending::Undecided, allowance);
     }
     if crews > Policy::CREWS {
-        return Filled {
-            ending: Ending::Exhausted,
-            crews: [0; Policy::CREWS],
-            units: spent,
-        };
+        return Filled::without_crews(Ending::Exhausted, spent);
     }
     fill_on(
         holds,

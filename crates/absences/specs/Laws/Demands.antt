@@ -83,6 +83,10 @@ module _ (way : Way) (table : Table) (P s d t : ℕ) (wide : P < 2 ^ 32) (allowa
       stopped e l A f (inr b) =
           absurd (first-not-holds table P s d t A f (none-blocks way table P s d t (admitted-fair table P s d t wide e) b))
 
+  -- a reply that is allowed is this one
+  pub policy-is : (r : Reply) → PolicyReply way table P s d t allowance r → r ≡ policyReplyOf way table P s d t allowance
+  policy-is r a = policy-same r (policyReplyOf way table P s d t allowance) a policy-allowed
+
 -- ---- demand 2
 
 -- what a reply tells whoever reads it

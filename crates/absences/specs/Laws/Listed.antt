@@ -15,7 +15,6 @@ use lib.Dec.{T}
 use lib.Pow.{pow-pos}
 use borrow.Author.Tests.{eqb-true, eq-eqb, ne-eqb}
 use Rattle.sets.specs.Sets.{bit, Has, bit-le, bit-none, bit-high, with, with-lt, bit-with-same, bit-with-other, ones-with, ones-none, ext, sub-eq, sub-of-test, test-of-sub}
-use Rattle.sets.specs.Members.{setOf}
 use Rattle.sets.specs.Laws.Sums.{either, toN-yes, true-of-toN}
 use Rattle.sets.specs.Laws.Build.{setOf-bit, setOf-high}
 use Rattle.roster.specs.declared.Table.{Table}

@@ -26,7 +26,7 @@ use Rattle.absences.specs.Asked.{PolicyReply}
 use Rattle.absences.specs.Replied.{repliedBy, policyReplyOf}
 use Rattle.absences.specs.Laws.Listed.{row-here, row-next, rowAt-lt, listed-joins, listed-not, none-more, none-left}
 use Rattle.absences.specs.Laws.Weighed.{dearer, weighed-fits, weighed-blocks}
-use Rattle.absences.specs.Laws.Demands.{policy-same, policy-allowed}
+use Rattle.absences.specs.Laws.Demands.{policy-is}
 
 module _ (table other : Table) (P : ℕ) (same : Agree table other P) where
   same-row : (r n u : ℕ) → u + n ≤ table .rows → rowFrom table P r n u ≡ rowFrom other P r n u
@@ -122,6 +122,6 @@ module _ (table other : Table) (P : ℕ) (same : Agree table other P) where
 pub policy-agree : (way : Way) (table other : Table) (P s d t allowance : ℕ) → P < 2 ^ 32 → Agree table other P → (r q : Reply)
     → PolicyReply way table P s d t allowance r → PolicyReply way other P s d t allowance q → r ≡ q
 policy-agree way table other P s d t allowance wide same r q a b =
-    policy-same way table P s d t wide allowance r (policyReplyOf way table P s d t allowance) a (policy-allowed way table P s d t wide allowance)
+    policy-is way table P s d t wide allowance r a
     ∙ same-reply table other P same d t way s allowance
-    ∙ policy-same way other P s d t wide allowance (policyReplyOf way other P s d t allowance) q (policy-allowed way other P s d t wide allowance) b
+    ∙ sym (policy-is way other P s d t wide allowance q b)

@@ -1,6 +1,7 @@
 -- Each way through the code is one step of the definition: the returns before the loop are `search-done` and `search-full`, the loop keeps
 -- `Going`, and each turn ends by a law of Turns. The measure is the number of free rows, which falls with each placement. Assumes nothing.
 use mathlib.Core.Path.{refl, ap, _∙_}
+use mathlib.Core.Logic.{⊎-elim}
 use Prim.Native.Nat.{ℕ, _<_}
 use native.Mathlib.Omega.{arith}
 use lib.Bits.{bitAnd}
@@ -18,6 +19,8 @@ use Rattle.crews.proofs.Turns as turn
 use Rattle.crews.proofs.fill_on.Reads as fill-on
 use Rattle.crews.proofs.fill_on.Kinds as fill-on-kinds
 use Rattle.crews.proofs.+fill_on.Lts-fill_on as fill-on-lts
+use Rattle.crews.proofs.Filled.without_crews.Reads as without-crews-reads
+use Rattle.crews.proofs.Filling.complete.Reads as complete-reads
 use Rattle.crews.proofs.Filling.placed.Reads as placed-reads
 use Rattle.crews.proofs.candidates.Reads as candidates-reads
 use Rattle.sets.proofs.least.Reads as least-reads
@@ -36,8 +39,12 @@ fill-on-below t = and 2 fill-on-kinds.ps (falls 2 fill-on-kinds.ps _<_ μ-fill-o
 
 abbrev callees : ℕ → fill-on-lts.Claims
 callees t = (
+  complete-reads.Asked,
+  complete-reads.Learnt,
   size-reads.Asked,
   size-reads.Learnt,
+  without-crews-reads.Asked,
+  without-crews-reads.Learnt,
   missing-reads.Asked,
   missing-reads.Learnt,
   candidates-reads.Asked,
@@ -57,12 +64,16 @@ fill-on-Inv-loop holds holders task crews size f spent allowance closed rest₀ 
 abbrev fill-on-μ-loop : fill-on-lts.MeasureT-loop
 fill-on-μ-loop holds holders task crews size f spent allowance closed rest₀ units₀ rest units = ones rest
 
+fill-on-complete-requires : (t : ℕ) → fill-on-lts.Need-complete-requires (callees t) (fill-on-at t) fill-on.Post fill-on-Inv-loop fill-on-μ-loop
+fill-on-complete-requires t c κs = search needs
+
 fill-on-returns : (t : ℕ) → fill-on-lts.Need-returns (callees t) (fill-on-at t) fill-on.Post fill-on-Inv-loop fill-on-μ-loop
 fill-on-returns t c =
-    let s0 = c .before .before in
+    let s0 = c .before .before .before in
     let s = s0 .args in
-    step.says-complete (s .allowance) (s .spent) (s .f .crews) _
-    (search-done (plainly (at (s .holds .now)) (at (s .holders .now)) (s .task) (s .crews) (s .size)) (s .f) (ones (s .f .free)) (c .if1 .taken)) (s0 .pre .1 .within)
+    c .complete .ensures
+    ∙ step.says-complete (s .allowance) (s .spent) (s .f .crews) _ (search-done (plainly (at (s .holds .now)) (at (s .holders .now)) (s .task) (s .crews) (s .size)) (s .f) (ones (s .f .free)) (c .before .if1 .taken))
+    (s0 .pre .1 .within)
 
 fill-on-mul-size : (t : ℕ) → fill-on-lts.Need-mul-size (callees t) (fill-on-at t) fill-on.Post fill-on-Inv-loop fill-on-μ-loop
 fill-on-mul-size t c = search needs
@@ -73,13 +84,17 @@ fill-on-array-read-size t c = search needs
 fill-on-size-requires : (t : ℕ) → fill-on-lts.Need-size-requires (callees t) (fill-on-at t) fill-on.Post fill-on-Inv-loop fill-on-μ-loop
 fill-on-size-requires t c κs = search needs
 
+fill-on-without-crews-requires : (t : ℕ) → fill-on-lts.Need-without-crews-requires (callees t) (fill-on-at t) fill-on.Post fill-on-Inv-loop fill-on-μ-loop
+fill-on-without-crews-requires t c κs = search needs
+
 fill-on-returns-2 : (t : ℕ) → fill-on-lts.Need-returns-2 (callees t) (fill-on-at t) fill-on.Post fill-on-Inv-loop fill-on-μ-loop
 fill-on-returns-2 t c =
-    let s0 = c .before .before .before .before in
+    let s0 = c .before .before .before .before .before in
     let s = s0 .args in
-    step.says-exhausted (s .allowance) (s .spent) _
-    (search-full (plainly (at (s .holds .now)) (at (s .holders .now)) (s .task) (s .crews) (s .size)) (s .f) (ones (s .f .free)) (c .before .before .if1 .left)
-    (rw (c .before .size .ensures) at (c .if2 .taken))) (s0 .pre .1 .within)
+    c .without-crews .ensures
+    ∙ step.says-exhausted (s .allowance) (s .spent) _
+    (search-full (plainly (at (s .holds .now)) (at (s .holders .now)) (s .task) (s .crews) (s .size)) (s .f) (ones (s .f .free)) (c .before .before .before .if1 .left) (rw (c .before .before .size .ensures) at (c .before .if2 .taken)))
+    (s0 .pre .1 .within)
 
 fill-on-missing-requires : (t : ℕ) → fill-on-lts.Need-missing-requires (callees t) (fill-on-at t) fill-on.Post fill-on-Inv-loop fill-on-μ-loop
 fill-on-missing-requires t c κs = search needs
@@ -95,12 +110,16 @@ fill-on-loop-holds t c =
     (c .candidates .ensures ∙ ap (λ (m : ℕ). bitAnd (at (s .holders .now) (trailingZeros 32 m)) (s .f .free)) (c .before .missing .ensures))
     (c .candidates .ok) (s0 .pre .1 .within) (c .before .before .before .before .before .if1 .left) (rw (c .before .before .before .before .size .ensures) at (c .before .before .before .if2 .left))
 
+fill-on-without-crews-requires-2 : (t : ℕ) → fill-on-lts.Need-without-crews-requires-2 (callees t) (fill-on-at t) fill-on.Post fill-on-Inv-loop fill-on-μ-loop
+fill-on-without-crews-requires-2 t c κs = search needs
+
 fill-on-returns-3 : (t : ℕ) → fill-on-lts.Need-returns-3 (callees t) (fill-on-at t) fill-on.Post fill-on-Inv-loop fill-on-μ-loop
 fill-on-returns-3 t c =
-    let top = c .before .before in
+    let top = c .before .before .before in
     let s = top .before .before .before .before .before .before .before .before .args in
     let l = top .loop in
-    turn.spent-out (s .holds .now) (s .holders .now) (s .task) (s .crews) (s .size) (s .f) (s .spent) (s .allowance) (l .rest) (l .units) (l .inv) (trailingZeros 64 (l .rest)) refl (c .before .loop-test .taken) (c .if3 .taken)
+    c .without-crews2 .ensures
+    ∙ turn.spent-out (s .holds .now) (s .holders .now) (s .task) (s .crews) (s .size) (s .f) (s .spent) (s .allowance) (l .rest) (l .units) (l .inv) (trailingZeros 64 (l .rest)) refl (c .before .before .loop-test .taken) (c .before .if3 .taken)
 
 fill-on-least-requires : (t : ℕ) → fill-on-lts.Need-least-requires (callees t) (fill-on-at t) fill-on.Post fill-on-Inv-loop fill-on-μ-loop
 fill-on-least-requires t c κs = search needs
@@ -157,6 +176,16 @@ fill-on-fill-on-requires t c κs =
 fill-on-enum-told : (t : ℕ) → fill-on-lts.Need-enum-told (callees t) (fill-on-at t) fill-on.Post fill-on-Inv-loop fill-on-μ-loop
 fill-on-enum-told t c = search needs
 
+fill-on-returns-4 : (t : ℕ) → fill-on-lts.Need-returns-4 (callees t) (fill-on-at t) fill-on.Post fill-on-Inv-loop fill-on-μ-loop
+fill-on-returns-4 t c =
+    let top = c .before .before .before .before .before .before .before in
+    let s = top .before .before .before .before .before .before .before .before .args in
+    let l = top .loop in
+    let row = c .before .before .before .before .least in
+    turn.ended-here (s .holds .now) (s .holders .now) (s .task) (s .crews) (s .size) (s .f) (s .spent) (s .allowance) (l .rest) (l .units) (l .inv) (row .result) (row .ensures) (c .before .before .before .before .before .before .loop-test .taken) (at (s .holds .now) (row .result)) refl
+    (c .before .before .placed .result) (c .before .before .placed .ensures) (c .before .fill-on .result) (c .before .fill-on .ensures)
+    (λ e. ⊎-elim (λ z. omega arith) (λ z. omega arith) (rw e at (c .match .keys2)))
+
 fill-on-loop-less : (t : ℕ) → fill-on-lts.Need-loop-less (callees t) (fill-on-at t) fill-on.Post fill-on-Inv-loop fill-on-μ-loop
 fill-on-loop-less t c =
     let top = c .before .before .before .before .before .before .before .before in
@@ -174,36 +203,15 @@ fill-on-loop-again t c =
     turn.exhausted-here (s .holds .now) (s .holders .now) (s .task) (s .crews) (s .size) (s .f) (s .spent) (s .allowance) (l .rest) (l .units) (l .inv) (row .result) (row .ensures) (c .before .before .before .before .before .before .before .loop-test .taken) (at (s .holds .now) (row .result)) refl (c .before .before .before .placed .result) (c .before .before .before .placed .ensures)
     (c .before .before .fill-on .result) (c .before .before .fill-on .ensures) (c .enum-told .given .1)
 
-fill-on-enum-told-2 : (t : ℕ) → fill-on-lts.Need-enum-told-2 (callees t) (fill-on-at t) fill-on.Post fill-on-Inv-loop fill-on-μ-loop
-fill-on-enum-told-2 t c = search needs
-
-fill-on-returns-4 : (t : ℕ) → fill-on-lts.Need-returns-4 (callees t) (fill-on-at t) fill-on.Post fill-on-Inv-loop fill-on-μ-loop
-fill-on-returns-4 t c =
-    let top = c .before .before .before .before .before .before .before .before in
-    let s = top .before .before .before .before .before .before .before .before .args in
-    let l = top .loop in
-    let row = c .before .before .before .before .before .least in
-    turn.complete-here (s .holds .now) (s .holders .now) (s .task) (s .crews) (s .size) (s .f) (s .spent) (s .allowance) (l .rest) (l .units) (l .inv) (row .result) (row .ensures) (c .before .before .before .before .before .before .before .loop-test .taken) (at (s .holds .now) (row .result)) refl (c .before .before .before .placed .result) (c .before .before .before .placed .ensures)
-    (c .before .before .fill-on .result) (c .before .before .fill-on .ensures) (c .enum-told2 .given .1)
-
-fill-on-enum-told-3 : (t : ℕ) → fill-on-lts.Need-enum-told-3 (callees t) (fill-on-at t) fill-on.Post fill-on-Inv-loop fill-on-μ-loop
-fill-on-enum-told-3 t c = search needs
+fill-on-without-crews-requires-3 : (t : ℕ) → fill-on-lts.Need-without-crews-requires-3 (callees t) (fill-on-at t) fill-on.Post fill-on-Inv-loop fill-on-μ-loop
+fill-on-without-crews-requires-3 t c κs = search needs
 
 fill-on-returns-5 : (t : ℕ) → fill-on-lts.Need-returns-5 (callees t) (fill-on-at t) fill-on.Post fill-on-Inv-loop fill-on-μ-loop
 fill-on-returns-5 t c =
-    let top = c .before .before .before .before .before .before .before .before in
+    let top = c .before .before in
     let s = top .before .before .before .before .before .before .before .before .args in
     let l = top .loop in
-    let row = c .before .before .before .before .before .least in
-    turn.undecided-here (s .holds .now) (s .holders .now) (s .task) (s .crews) (s .size) (s .f) (s .spent) (s .allowance) (l .rest) (l .units) (l .inv) (row .result) (row .ensures) (c .before .before .before .before .before .before .before .loop-test .taken) (at (s .holds .now) (row .result)) refl (c .before .before .before .placed .result) (c .before .before .before .placed .ensures)
-    (c .before .before .fill-on .result) (c .before .before .fill-on .ensures) (c .enum-told3 .given .1)
-
-fill-on-returns-6 : (t : ℕ) → fill-on-lts.Need-returns-6 (callees t) (fill-on-at t) fill-on.Post fill-on-Inv-loop fill-on-μ-loop
-fill-on-returns-6 t c =
-    let top = c .before in
-    let s = top .before .before .before .before .before .before .before .before .args in
-    let l = top .loop in
-    turn.ended (s .holds .now) (s .holders .now) (s .task) (s .crews) (s .size) (s .f) (s .spent) (s .allowance) (l .rest) (l .units) (l .inv) (c .loop-test .left)
+    c .without-crews3 .ensures ∙ turn.ended (s .holds .now) (s .holders .now) (s .task) (s .crews) (s .size) (s .f) (s .spent) (s .allowance) (l .rest) (l .units) (l .inv) (c .before .loop-test .left)
 
 pub +fill-on-spec : {M : Type 1} → statement M
 +fill-on-spec = close μ-fill-on λ t. fill-on-lts.spec (callees t)
@@ -211,14 +219,17 @@ pub +fill-on-spec : {M : Type 1} → statement M
     fill-on.Post
     fill-on-Inv-loop
     fill-on-μ-loop
+    (fill-on-complete-requires t)
     (fill-on-returns t)
     (fill-on-mul-size t)
     (fill-on-array-read-size t)
     (fill-on-size-requires t)
+    (fill-on-without-crews-requires t)
     (fill-on-returns-2 t)
     (fill-on-missing-requires t)
     (fill-on-candidates-requires t)
     (fill-on-loop-holds t)
+    (fill-on-without-crews-requires-2 t)
     (fill-on-returns-3 t)
     (fill-on-least-requires t)
     (fill-on-cast-row t)
@@ -229,10 +240,8 @@ pub +fill-on-spec : {M : Type 1} → statement M
     (fill-on-add-fill-on t)
     (fill-on-fill-on-requires t)
     (fill-on-enum-told t)
+    (fill-on-returns-4 t)
     (fill-on-loop-less t)
     (fill-on-loop-again t)
-    (fill-on-enum-told-2 t)
-    (fill-on-returns-4 t)
-    (fill-on-enum-told-3 t)
+    (fill-on-without-crews-requires-3 t)
     (fill-on-returns-5 t)
-    (fill-on-returns-6 t)

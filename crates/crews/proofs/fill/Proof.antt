@@ -11,17 +11,24 @@ use Rattle.crews.specs.Laws.Steps.{filled-over, says-exhausted, found-fe
 use Rattle.crews.proofs.fill.Statement.{statement}
 use Rattle.crews.proofs.fill.Tie as tie
 
+without-crews-requires : tie.Need-without-crews-requires
+without-crews-requires c κs = search needs
+
 returns : tie.Need-returns
 returns c =
-    let s = c .before .args in
+    let s = c .before .before .args in
     let w = plainly (at (s .holds .now)) (at (s .holders .now)) (s .task) (s .crews) (s .size) in
-    sym (filled-over (s .allowance) (s .spent) (foundFrom w (s .free)) (omega (arith, c .if1 .taken)))
+    c .without-crews .ensures ∙ sym (filled-over (s .allowance) (s .spent) (foundFrom w (s .free)) (omega (arith, c .before .if1 .taken)))
+
+without-crews-requires-2 : tie.Need-without-crews-requires-2
+without-crews-requires-2 c κs = search needs
 
 returns-2 : tie.Need-returns-2
 returns-2 c =
-    let s = c .before .before .args in
+    let s = c .before .before .before .args in
     let w = plainly (at (s .holds .now)) (at (s .holders .now)) (s .task) (s .crews) (s .size) in
-    says-exhausted (s .allowance) (s .spent) (foundFrom w (s .free)) (found-many w (s .free) (c .if2 .taken)) (c .before .if1 .left)
+    c .without-crews2 .ensures
+    ∙ says-exhausted (s .allowance) (s .spent) (foundFrom w (s .free)) (found-many w (s .free) (c .before .if2 .taken)) (c .before .before .if1 .left)
 
 begin-requires : tie.Need-begin-requires
 begin-requires c κs = search needs
@@ -39,4 +46,4 @@ returns-3 c =
     ∙ ap (filledOf (s .allowance) (s .spent)) (sym (found-few w (s .free) (c .before .before .if2 .left)))
 
 pub fill-spec : {M : Type 1} → statement M
-fill-spec = tie.close (tie.spec returns returns-2 begin-requires fill-on-requires returns-3)
+fill-spec = tie.close (tie.spec without-crews-requires returns without-crews-requires-2 returns-2 begin-requires fill-on-requires returns-3)

@@ -112,13 +112,16 @@ module _ (deeper : Filling → Outcome) (w : Work) (f : Filling) where
       turn-spent l m = let n = try-need in sym (filled-over most spent (tryEach deeper w f (row ∷ rest)) (omega arith))
 
       module _ (r : Filled) (e : r ≡ filledOf most (spent + 1) tried) where
-        pub turn-complete : r .ending ≡ Complete → r ≡ filledOf most spent (tryEach deeper w f (row ∷ rest))
-        turn-complete v = go (judge most (spent + 1) tried r e)
+        -- it is complete or undecided, and so is the whole
+        pub turn-ended : r .ending ≢ Exhausted → r ≡ filledOf most spent (tryEach deeper w f (row ∷ rest))
+        turn-ended v = go (judge most (spent + 1) tried r e)
           where
             go : Judged most (spent + 1) tried r → r ≡ filledOf most spent (tryEach deeper w f (row ∷ rest))
             go (is-complete b x fits) = e ∙ sym (filled-after most spent 1 tried) ∙ ap (filledOf most spent) (sym (try-works b))
-            go (is-exhausted b x u l) = let z : _≡_ {A = ℕ} 0 1 = cc in absurd (omega arith)
-            go (is-over h x) = let z : _≡_ {A = ℕ} 0 1 = cc in absurd (omega arith)
+            go (is-exhausted b x u l) = absurd (v x)
+            go (is-over h x) =
+                let n = try-need in
+                e ∙ filled-over most (spent + 1) tried h ∙ sym (filled-over most spent (tryEach deeper w f (row ∷ rest)) (omega arith))
 
         -- the other candidates, at what it took
         pub turn-exhausted : r .ending ≡ Exhausted
@@ -134,16 +137,6 @@ module _ (deeper : Filling → Outcome) (w : Work) (f : Filling) where
               l,
             )
             go (is-over h x) = let z : _≡_ {A = ℕ} 0 1 = cc in absurd (omega arith)
-
-        pub turn-undecided : r .ending ≡ Undecided → r ≡ filledOf most spent (tryEach deeper w f (row ∷ rest))
-        turn-undecided v = go (judge most (spent + 1) tried r e)
-          where
-            go : Judged most (spent + 1) tried r → r ≡ filledOf most spent (tryEach deeper w f (row ∷ rest))
-            go (is-complete b x fits) = let z : _≡_ {A = ℕ} 0 1 = cc in absurd (omega arith)
-            go (is-exhausted b x u l) = let z : _≡_ {A = ℕ} 0 1 = cc in absurd (omega arith)
-            go (is-over h x) =
-                let n = try-need in
-                e ∙ filled-over most (spent + 1) tried h ∙ sym (filled-over most spent (tryEach deeper w f (row ∷ rest)) (omega arith))
 
 -- ---- the search under 01's rule
 
