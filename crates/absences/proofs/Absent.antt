@@ -4,9 +4,10 @@ use mathlib.Core.Logic.{⊎-elim}
 use mathlib.Core.Bool.{Bool, true, false}
 use mathlib.Core.List.{List, [], _∷_}
 use Prim.Native.Nat.{ℕ, _+_, _-_, _^_, _≤_, _<_}
-use native.Mathlib.Nat.{add-zero}
+use native.Mathlib.Nat.{add-zero, mod-eq-of-lt}
 use native.Mathlib.Omega.{arith}
-use lib.Bits.{bitAnd}
+use lib.Bits.{bitAnd, and-mask}
+use lib.Pow.{pow-mono, ones-lt}
 use borrow.Author.Tests.{le-leb}
 use Rattle.sets.specs.Laws.Sums.{either}
 use Rattle.roster.specs.declared.Table.{Table}
@@ -19,12 +20,11 @@ use Rattle.crews.specs.Filled.{tabulate, at, filledOf, foundFrom}
 use Rattle.crews.specs.Laws.Arrays.{lent-work}
 use Rattle.crews.specs.Laws.Steps as steps
 use Rattle.absences.specs.declared.Search.{Search}
-use Rattle.absences.specs.declared.Course.the-variants.{Blocked}
 use Rattle.absences.specs.declared.Walked.{Walked}
-use Rattle.absences.specs.Tried.{Found, weighed}
-use Rattle.absences.specs.Walk.{Lent, courseOf, walkedOf}
+use Rattle.absences.specs.Tried.{Found, unitsOf, weighed}
+use Rattle.absences.specs.Walk.{Lent, courseOf, walkedFrom, walkedOf}
 use Rattle.absences.specs.Laws.Weighed.{weighed-fits, weighed-blocks, weighed-none, dearer}
-use Rattle.absences.proofs.Spent.{undecidedAt, openAt, walked-fits, walked-over}
+use Rattle.absences.proofs.Spent.{undecidedAt, walked-fits, walked-over}
 
 -- filling from what is lent is 01's filling with A absent
 module _ (table : Table) (s : Search) (holds holders : List ℕ) (lent : Lent table s holds holders) where
@@ -38,6 +38,12 @@ module _ (table : Table) (s : Search) (holds holders : List ℕ) (lent : Lent ta
       (lent .holding ∙ ap (λ (h : List ℕ). tabulate 32 (holdersOf (at h))) (lent .held))
       ∙ lent-work table (s .task) (s .crews) (s .size) (lent .small) (lent .wide))
       (e ∙ ap (λ (all : ℕ). bitAnd all ((2 ^ rowLimit - 1) - A)) (lent .everyone)))
+
+  -- with nobody absent everyone is left
+  pub nobody : s .everyone ≡ bitAnd (s .everyone) ((2 ^ rowLimit - 1) - 0)
+  nobody =
+      let wide : s .everyone < 2 ^ 64 = omega (arith, lent .everyone, pow-mono {i = table .rows} {j = 64} (lent .small), ones-lt (table .rows)) in
+      sym (and-mask (s .everyone) 64 ∙ mod-eq-of-lt wide)
 
 -- whether it blocks or not
 alone-costs : (table : Table) (P d t A : ℕ) → weighed table P d t (A ∷ []) .need ≡ 1 + filling table P d t A .need
@@ -58,56 +64,30 @@ module _ (table : Table) (P d t most spent A : ℕ) (r : Filled) (e : r ≡ fill
   alone-need : alone .need ≡ 1 + o .need
   alone-need = alone-costs table P d t A
 
-  judged : steps.Judged most (spent + 1) o r
-  judged = steps.judge most (spent + 1) o r e
-
   units : (spent + 1) + o .need ≤ most → r .units ≡ spent + alone .need
   units h = ap (λ (x : Filled). x .units) (e ∙ steps.filled-fits most (spent + 1) o h) ∙ omega (arith, alone-need)
 
-  complete-exhausted : (x : Ending) → x ≡ ending.Complete → x ≡ ending.Exhausted → ⊥
-  complete-exhausted x p q = let z : _≡_ {A = ℕ} 0 1 = cc in omega arith
+  -- an outcome that the allowance is enough for
+  fits : (w : Found) → alone ≡ w → (spent + 1) + o .need ≤ most → record { course = courseOf (w .blocked); blocker = w .blocker; units = r .units } ≡ walkedOf most spent alone
+  fits w f h =
+      ap₂ (λ (x : Found) (n : ℕ). record { course = courseOf (x .blocked); blocker = x .blocker; units = n }) (sym f) (units h)
+      ∙ sym (walked-fits most spent alone (omega (arith, alone-need)))
 
-  complete-undecided : (x : Ending) → x ≡ ending.Complete → x ≡ ending.Undecided → ⊥
-  complete-undecided x p q = let z : _≡_ {A = ℕ} 0 1 = cc in omega arith
-
-  exhausted-undecided : (x : Ending) → x ≡ ending.Exhausted → x ≡ ending.Undecided → ⊥
-  exhausted-undecided x p q = let z : _≡_ {A = ℕ} 0 1 = cc in omega arith
-
-  -- it does not block
-  pub absent-complete : r .ending ≡ ending.Complete → openAt (r .units) ≡ walkedOf most spent alone
-  absent-complete v = go judged
+  -- what the filling says of the absence
+  pub absent-told : walkedFrom (r .ending) A (r .units) ≡ walkedOf most spent alone
+  absent-told = go (steps.judge most (spent + 1) o r e)
     where
-      go : steps.Judged most (spent + 1) o r → openAt (r .units) ≡ walkedOf most spent alone
+      told : (x : Ending) → r .ending ≡ x → walkedFrom (r .ending) A (r .units) ≡ walkedFrom x A (r .units)
+      told x q = ap (λ (y : Ending). walkedFrom y A (r .units)) q
+
+      go : steps.Judged most (spent + 1) o r → walkedFrom (r .ending) A (r .units) ≡ walkedOf most spent alone
       go (steps.is-complete b w h) =
-          let f = weighed-fits table P d t A [] b ∙ ap (dearer (1 + o .need)) (weighed-none table P d t) in
-          ap openAt (units h)
-          ∙ ap (λ (x : Found). record { course = courseOf (x .blocked); blocker = x .blocker; units = spent + alone .need }) (sym f)
-          ∙ sym (walked-fits most spent alone (omega (arith, alone-need)))
-      go (steps.is-exhausted b w u l) = absurd (complete-exhausted _ v w)
-      go (steps.is-over h w) = absurd (complete-undecided _ v w)
-
-  -- it blocks
-  pub absent-exhausted : r .ending ≡ ending.Exhausted → record { course = Blocked; blocker = A; units = r .units } ≡ walkedOf most spent alone
-  absent-exhausted v = go judged
-    where
-      go : steps.Judged most (spent + 1) o r → record { course = Blocked; blocker = A; units = r .units } ≡ walkedOf most spent alone
-      go (steps.is-complete b w h) = absurd (complete-exhausted _ w v)
-      go (steps.is-exhausted b w u l) =
-          let f = weighed-blocks table P d t A [] b in
-          ap (λ (n : ℕ). record { course = Blocked; blocker = A; units = n }) (units (omega arith))
-          ∙ ap (λ (x : Found). record { course = courseOf (x .blocked); blocker = x .blocker; units = spent + alone .need }) (sym f)
-          ∙ sym (walked-fits most spent alone (omega (arith, alone-need)))
-      go (steps.is-over h w) = absurd (exhausted-undecided _ v w)
-
-  -- the allowance is spent on the way
-  pub absent-undecided : r .ending ≡ ending.Undecided → undecidedAt (r .units) ≡ walkedOf most spent alone
-  absent-undecided v = go judged
-    where
-      go : steps.Judged most (spent + 1) o r → undecidedAt (r .units) ≡ walkedOf most spent alone
-      go (steps.is-complete b w h) = absurd (complete-undecided _ w v)
-      go (steps.is-exhausted b w u l) = absurd (exhausted-undecided _ w v)
+          told ending.Complete w
+          ∙ fits _ (weighed-fits table P d t A [] b ∙ ap (dearer (unitsOf o)) (weighed-none table P d t)) h
+      go (steps.is-exhausted b w u l) = told ending.Exhausted w ∙ fits _ (weighed-blocks table P d t A [] b) (omega arith)
       go (steps.is-over h w) =
-          ap undecidedAt (ap (λ (x : Filled). x .units) (e ∙ steps.filled-over most (spent + 1) o h))
+          told ending.Undecided w
+          ∙ ap undecidedAt (ap (λ (x : Filled). x .units) (e ∙ steps.filled-over most (spent + 1) o h))
           ∙ sym (walked-over most spent alone (omega (arith, alone-need)))
 
 -- no unit is left to try it

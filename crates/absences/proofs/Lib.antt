@@ -5,3 +5,4 @@ pub mod Over
 pub mod Absent
 pub mod Turns
 pub mod Sizes
+pub mod Replied
