@@ -1,6 +1,8 @@
 // Runs every edge that the rules list: the three questions, the reader of the roster book and the sheet, each reply compared with one that is
 // written out here. It prints for each group how many comparisons were made and how many differ, which has to be none.
+mod draft;
 mod questions;
+mod reader;
 mod tables;
 mod tally;
 
@@ -29,6 +31,21 @@ fn show_questions() {
     show(b"errors that look reasonable", questions::reasonable());
 }
 
+fn show_reader() {
+    show(b"book B", reader::book_b());
+    show(b"book B cut at every byte", reader::cuts());
+    show(b"refusals 12 and 13", reader::permissions());
+    show(b"refusals 14, 15 and 16", reader::table_rows());
+    show(b"refusals 17, 18 and 2 to 5", reader::policies());
+    show(b"two faults in one entry", reader::one_entry());
+    show(b"faults in two places", reader::two_places());
+    show(b"zeros", reader::zeros());
+    show(b"31 and 32 permissions", reader::last_permission());
+    show(b"longest book", reader::longest_book());
+    show(b"longest book cut at every byte", reader::longest_cuts());
+}
+
 fn main() {
     show_questions();
+    show_reader();
 }
