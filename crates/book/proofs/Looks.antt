@@ -34,6 +34,7 @@ use Rattle.book.specs.Reading.{
   rows,
   policies,
 }
+use Rattle.book.specs.Laws.First.{not-faulty, first-append}
 use Rattle.book.specs.Steps.{leadIn, staysIn, outIn, countIn, madeAt, lookIn, widthIn, stepFrom, pastEntry, startAt, looksIn, pastIn, stepIn}
 use Rattle.book.proofs.Numbers.{number-1}
 use Rattle.book.specs.declared.Fault.{Fault}
@@ -99,11 +100,6 @@ pub made-at : (book : List ℕ) (at : ℕ)
 unfolding fieldsAt
 made-at book at = simp (number-1, add-assoc)
 
--- a look that is sound has not this fault, and nothing after it
-pub not-faulty : (b : Bool) (f : Fault) (rest : Look) → faultIf b f rest ≡ Sound → (b ≡ false) × (rest ≡ Sound)
-not-faulty true f rest e = (cc, cc)
-not-faulty false f rest e = (refl, e)
-
 -- a sound look was at something whole
 pub whole : (book : List ℕ) (at wide : ℕ) (rest : Look) → wholeThen book at wide rest ≡ Sound → at + wide ≤ length book
 whole book at wide rest e = ltb-false _ _ (not-faulty _ _ _ e .0)
@@ -143,14 +139,6 @@ module _ (look : Before → ℕ → Look) (wide : ℕ) (c : Cursor) where
       rw (e, less) (rw far)
 
 -- ---- one section after the other
-
--- the fault is in the first part, or the rest decides
-pub first-append : {R : Type 0} (refused : Fault → ℕ → R) (good : R) (l m : List Found)
-    → firstFault refused good (l ++ m) ≡ firstFault refused (firstFault refused good m) l
-unfolding firstFault
-first-append refused good [] m = refl
-first-append {R} refused good (x ∷ l) m =
-    ap (λ (t : R). elim (x .look) [ Sound ↦ t | Faulty f ↦ refused f (x .place) ]) (first-append refused good l m)
 
 module _ {R : Type 0} (refused : Fault → ℕ → R) (good : R) where
   -- a fault that a step tells is the fault of the whole

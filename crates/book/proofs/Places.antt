@@ -1,61 +1,15 @@
--- Laws of the places of entries: where one stands it is whole, and a section with an entry has a count within the book. Assumes nothing.
+-- A section's entries are not far from its start; a list is filled from the front. Assumes nothing.
 use mathlib.Core.Path.{_≡_, refl, sym, ap, _∙_}
-use mathlib.Core.Bool.{Bool, true, false}
 use mathlib.Core.List.{List, [], _∷_, _++_}
 use Prim.Native.Nat.{ℕ, zero, suc, _+_, _*_, _≤_, _<_}
-use native.Mathlib.Nat.{lt-of-not-le, mul-le-mul, le-of-lt}
-use native.Mathlib.Decide.{decLe}
-use native.Mathlib.Omega.{arith}
-use lib.Dec.{leb, ltb}
 use native.Mathlib.Numerals.{add-one}
+use native.Mathlib.Omega.{arith}
+use lib.ListN.{length, take, set}
 use lib.Seq.{take-suc-set, take-all}
-use lib.ListN.{length, getD, take, set, List·getD-eq-default}
-use borrow.Author.Tests.{le-leb, lt-leb, le-ltb, lt-ltb, ltb-false}
-use Rattle.book.specs.Reading.{countAt}
 use Rattle.book.specs.Steps.{widthIn}
-use Rattle.book.specs.Parts.{placeOf, upFrom}
+use Rattle.book.specs.Parts.{upFrom}
 use Rattle.book.specs.declared.Section.{Section}
 use Rattle.book.specs.declared.Section.the-variants.{Permissions, Rows, Policies}
-use Rattle.book.specs.declared.Place.{Place}
-use Rattle.book.specs.declared.Place.the-variants.{At, Nothing}
-
-module _ (wide : ℕ) (book : List ℕ) (start i : ℕ) where
-  -- past the last entry
-  pub place-past : countAt book start ≤ i → placeOf wide book start i ≡ Nothing
-  unfolding placeOf
-  place-past h = rw (placeOf, le-leb (countAt book start) i h)
-
-  -- one that the book does not have whole
-  pub place-cut : i < countAt book start → length book < start + 1 + wide * i + wide → placeOf wide book start i ≡ Nothing
-  unfolding placeOf
-  place-cut h l = rw (placeOf, lt-leb (countAt book start) i h) (rw (lt-ltb (length book) (start + 1 + wide * i + wide) l))
-
-  pub place-at : i < countAt book start → start + 1 + wide * i + wide ≤ length book → placeOf wide book start i ≡ At (start + 1 + wide * i)
-  unfolding placeOf
-  place-at h l = rw (placeOf, lt-leb (countAt book start) i h) (rw (le-ltb (length book) (start + 1 + wide * i + wide) l))
-
-  -- where one stands it is whole
-  within-by : (a b : Bool) {at : ℕ} → ltb (length book) (start + 1 + wide * i + wide) ≡ b
-      → elim a [ true ↦ Nothing | false ↦ elim b [ true ↦ Nothing | false ↦ At (start + 1 + wide * i) ] ] ≡ At at
-      → at + wide ≤ length book
-  within-by true b s e = let z : _≡_ {A = ℕ} 0 1 = cc in omega arith
-  within-by false true s e = let z : _≡_ {A = ℕ} 0 1 = cc in omega arith
-  within-by false false {at} s e =
-      let h = ltb-false (length book) (start + 1 + wide * i + wide) s in
-      let same : start + 1 + wide * i ≡ at = cc in
-      omega arith
-
-  pub place-within : {at : ℕ} → placeOf wide book start i ≡ At at → at + wide ≤ length book
-  unfolding placeOf
-  place-within e = within-by (leb (countAt book start) i) (ltb (length book) (start + 1 + wide * i + wide)) refl e
-
--- a section that has an entry has its count within the book
-pub counted : (book : List ℕ) (start i : ℕ) → i < getD book start 0 → start < length book
-counted book start i h = go (decLe (length book) start)
-  where
-    go : Dec (length book ≤ start) → start < length book
-    go (yes l) = let none : getD book start 0 ≡ 0 = List·getD-eq-default book 0 l in omega arith
-    go (no n) = lt-of-not-le n
 
 -- a section's entries are not far from its start
 pub near : (section : Section) (i : ℕ) → i < 256 → widthIn section * i ≤ 2048

@@ -97,7 +97,7 @@ heldOr0 (holdings.Held held) = held
 heldOr0 holdings.NoSuchRow = 0
 
 -- what f is at each number from i on, n of them
-unfoldable pub upFrom : ℕ → ℕ → (ℕ → ℕ) → List ℕ
+unfoldable pub upFrom : {A : Type 0} → ℕ → ℕ → (ℕ → A) → List A
 upFrom i zero f = []
 upFrom i (suc n) f = f i ∷ upFrom (suc i) n f
 

@@ -1,11 +1,16 @@
--- What the reader promises, in the words of the layout: what a first fault is, and what may be replied. The laws show that every byte string has
--- exactly one reply. Nothing here is proved: these are definitions.
+-- What the reader promises, in the words of the layout: what a first fault is, what may be replied, and what the parts of a book are. The laws
+-- show that every byte string has exactly one reply. Nothing here is proved: these are definitions.
 use mathlib.Core.Path.{_≡_}
+use mathlib.Core.Option.{Option, some, none}
 use mathlib.Core.List.{List, [], _∷_, _++_}
 use Prim.Native.Nat.{ℕ, _<_}
-use lib.ListN.{length, getD}
+use lib.ListN.{length, getD, getElem?}
+use Rattle.roster.specs.Limits.{rowLimit}
+use Rattle.roster.specs.declared.Policy.{Policy}
+use Rattle.roster.specs.declared.Table.{Table}
 use Rattle.book.specs.Layout.{
   Contents,
+  Row,
   Each,
   LayoutOf,
   section,
@@ -15,11 +20,27 @@ use Rattle.book.specs.Layout.{
   rowFields,
 }
 use Rattle.book.specs.Reading.{Found, looks}
+use Rattle.book.specs.Parts.{
+  startsIn,
+  staffAt,
+  holdingsAt,
+  heldOr0,
+  upFrom,
+  tableOf,
+  policyCount,
+  policyAt,
+}
 use Rattle.book.specs.declared.Fault.{Fault}
 use Rattle.book.specs.declared.Look.the-variants.{Sound, Faulty}
 use Rattle.book.specs.declared.Reading.{Reading}
 use Rattle.book.specs.declared.Reading.the-variants as read
 use Rattle.book.specs.declared.Starts.{Starts}
+use Rattle.book.specs.declared.Staff.{Staff}
+use Rattle.book.specs.declared.Staff.the-variants as staff
+use Rattle.book.specs.declared.Holdings.{Holdings}
+use Rattle.book.specs.declared.Holdings.the-variants as holdings
+use Rattle.book.specs.declared.Listed.{Listed}
+use Rattle.book.specs.declared.Listed.the-variants as listed
 
 -- a byte string, as a lent slice of bytes is one
 abbrev pub Bytes : List ℕ → Type 0
@@ -48,3 +69,37 @@ startsFor v = record {
 pub record Allows (book : List ℕ) (r : Reading) : Type 0 where
   pub good : (v : Contents) → LayoutOf v book → r ≡ read.Good (startsFor v)
   pub refused : (f : Fault) (at : ℕ) → FirstFault book f at → r ≡ read.Refused f at
+
+-- ---- the parts of a book
+
+-- what is answered of a row, and of a policy, that is there or not
+abbrev pub staffBy : Option Row → Staff
+staffBy none = staff.NoSuchRow
+staffBy (some row) = staff.Number (row .staff)
+
+abbrev pub holdingsBy : Option Row → Holdings
+holdingsBy none = holdings.NoSuchRow
+holdingsBy (some row) = holdings.Held (row .holdings)
+
+abbrev pub policyBy : Option Policy → Listed
+policyBy none = listed.NoSuchPolicy
+policyBy (some p) = listed.Policy p
+
+-- the table of these values: a row's holdings, and 0 past the last
+abbrev pub tableFor : Contents → Table
+tableFor v = record {
+  holdings = upFrom 0 rowLimit (λ row. heldOr0 (holdingsBy (getElem? (v .rows) row)));
+  rows = length (v .rows);
+}
+
+-- what the table, the policies and the rows of a book are that has these values
+pub record PartsOf (v : Contents) (book : List ℕ) : Type 0 where
+  pub table : tableOf book ≡ tableFor v
+  pub policies : policyCount book ≡ length (v .policies)
+  pub policy : (i : ℕ) → policyAt book i ≡ policyBy (getElem? (v .policies) i)
+  pub staff : (row : ℕ) → staffAt book (startsIn book .rows) row ≡ staffBy (getElem? (v .rows) row)
+  pub holdings : (row : ℕ) → holdingsAt book (startsIn book .rows) row ≡ holdingsBy (getElem? (v .rows) row)
+
+-- what a refused book is taken to have
+abbrev pub nothing : Contents
+nothing = record { codes = []; rows = []; policies = [] }

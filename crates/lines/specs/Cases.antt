@@ -12,6 +12,7 @@ use Rattle.roster.specs.Replies.{noCrews}
 use Rattle.roster.specs.declared.Verdict.the-variants.{Yes, No, Undecided}
 use Rattle.roster.specs.declared.Reply.{Reply}
 use Rattle.crews.specs.Filling.{placeOf, closeOf, placedOf, candidates, tryEach, search}
+use Rattle.crews.specs.Filled.{tabulate}
 use Rattle.absences.specs.Tried.{outweighsb, rowFrom, joins, listed, sizesFrom, weighed}
 use Rattle.absences.specs.Replied.{policyReplyOf}
 use Rattle.book.specs.Reading.{
@@ -75,7 +76,7 @@ b-sheet : sheetOf bookB
     ∷ 49 ∷ 32 ∷ 110 ∷ 111 ∷ 32 ∷ 49 ∷ 49 ∷ 32 ∷ 49 ∷ 48 ∷ 49 ∷ 44 ∷ 49 ∷ 48 ∷ 52 ∷ 10
     ∷ 50 ∷ 32 ∷ 110 ∷ 111 ∷ 32 ∷ 49 ∷ 48 ∷ 32 ∷ 45 ∷ 10
     ∷ []
-unfolding bit sumTo toN cons? members filter hasb setOf ones onesIn trailingZeros policyRuling ahead rank outweighsb placeOf closeOf placedOf candidates tryEach search rowFrom joins listed sizesFrom weighed policyReplyOf number fieldsAt countLook entryLook inTurn sectionLooks past firstFault readOf startsIn Parts·placeOf upFrom tableOf policyCount policyAt decimalIn decimal marked joined verdictWord names filled setsText lineOf badLine staffOf replyTo lineBy linesFrom sheetBy sheetOf
+unfolding bit sumTo toN cons? members filter hasb setOf ones onesIn trailingZeros policyRuling ahead rank outweighsb placeOf closeOf placedOf candidates tryEach search rowFrom joins listed sizesFrom weighed policyReplyOf number fieldsAt countLook entryLook inTurn sectionLooks past firstFault readOf startsIn Parts·placeOf upFrom tabulate tableOf policyCount policyAt decimalIn decimal marked joined verdictWord names filled setsText lineOf badLine staffOf replyTo lineBy linesFrom sheetBy sheetOf
 b-sheet = refl
 
 -- "B with one byte added prints `bad 19 60`"

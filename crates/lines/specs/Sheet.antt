@@ -8,19 +8,20 @@ use lib.ListN.{length, drop}
 use Rattle.roster.specs.Limits.{rowLimit}
 use Rattle.roster.specs.declared.Policy.{Policy}
 use Rattle.roster.specs.declared.Reply.{Reply}
+use Rattle.crews.specs.Filled.{tabulate}
 use Rattle.absences.specs.Tried.{skipping}
 use Rattle.absences.specs.Replied.{policyReplyOf}
 use Rattle.book.specs.Faults.{faultNumber}
 use Rattle.book.specs.Reading.{readOf}
-use Rattle.book.specs.Parts.{startsIn, staffAt, upFrom, tableOf, policyCount, policyAt}
+use Rattle.book.specs.Parts.{startsIn, staffAt, tableOf, policyCount, policyAt}
 use Rattle.book.specs.declared.Reading.{Reading}
 use Rattle.book.specs.declared.Reading.the-variants.{Good, Refused}
 use Rattle.book.specs.declared.Staff.{Staff}
 use Rattle.book.specs.declared.Staff.the-variants.{Number, NoSuchRow}
 use Rattle.book.specs.declared.Listed.{Listed}
 use Rattle.book.specs.declared.Listed.the-variants as listed
-use Rattle.lines.specs.declared.Sheet.{Sheet}
-use Rattle.lines.specs.declared.Sheet.the-variants.{Written, TooShort}
+use Rattle.lines.specs.declared.Writing.{Writing}
+use Rattle.lines.specs.declared.Writing.the-variants.{Written, TooShort}
 use Rattle.lines.specs.Lines.{lineOf, badLine}
 
 -- "The allowance is 1,000,000": each policy is asked with the whole of it
@@ -34,7 +35,7 @@ staffOr0 NoSuchRow = 0
 
 -- the staff numbers by row
 unfoldable pub staffOf : List ℕ → List ℕ
-staffOf book = upFrom 0 rowLimit (λ row. staffOr0 (staffAt book (startsIn book .rows) row))
+staffOf book = tabulate rowLimit (λ row. staffOr0 (staffAt book (startsIn book .rows) row))
 
 -- "asks by the search that skips"
 unfoldable pub replyTo : List ℕ → Policy → Reply
@@ -60,10 +61,10 @@ sheetOf book = sheetBy book (readOf book)
 
 -- no sheet is longer (`sheet-fits`)
 abbrev pub longest : ℕ
-longest = 24000
+longest = 23232
 
 -- What is promised: where the buffer is long enough for any sheet, this book's sheet stands at its front, and the rest of it is as it was; a
 -- shorter buffer is answered as too short and is as it was.
-pub record Promised (book old new : List ℕ) (r : Sheet) : Type 0 where
+pub record Promised (book old new : List ℕ) (r : Writing) : Type 0 where
   pub written : longest ≤ length old → (r ≡ Written (length (sheetOf book))) × (new ≡ sheetOf book ++ drop (length (sheetOf book)) old)
   pub short : length old < longest → (r ≡ TooShort) × (new ≡ old)

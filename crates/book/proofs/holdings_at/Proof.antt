@@ -6,7 +6,7 @@ use Rattle.book.specs.Reading.{fieldsAt}
 use Rattle.book.specs.Parts.{holdingsFrom}
 use Rattle.book.specs.declared.Holdings.the-variants as holdings
 use Rattle.book.proofs.Looks.{both}
-use Rattle.book.proofs.Places.{place-within}
+use Rattle.book.specs.Laws.Places.{place-within}
 use Rattle.book.proofs.holdings_at.Statement.{statement}
 use Rattle.book.proofs.holdings_at.Tie as tie
 

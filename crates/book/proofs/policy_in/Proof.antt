@@ -5,7 +5,7 @@ use native.Mathlib.Omega.{arith}
 use Rattle.book.specs.Parts.{listedBy, policyFrom}
 use Rattle.book.proofs.Looks.{both}
 use Rattle.book.proofs.Looks.{made-at}
-use Rattle.book.proofs.Places.{place-within}
+use Rattle.book.specs.Laws.Places.{place-within}
 use Rattle.book.proofs.policy_in.Statement.{statement}
 use Rattle.book.proofs.policy_in.Tie as tie
 

@@ -52,9 +52,17 @@ use Rattle.book.specs.Reading.{
 }
 use Rattle.book.specs.Parts.{contentsOf, valuesAt, entriesAt}
 use Rattle.book.specs.Promises.{Bytes, AllSound, FirstFault, startsFor, Allows}
-use Rattle.book.specs.Laws.Sections.{
+use Rattle.book.specs.Laws.First.{
   not-faulty,
   no-fault,
+  sound-append,
+  append-sound,
+  all-sound,
+  first-faulty,
+  Split,
+  split,
+}
+use Rattle.book.specs.Laws.Sections.{
   Fits,
   Stands,
   entries-length,
@@ -91,66 +99,6 @@ use Rattle.book.specs.declared.Look.the-variants.{Sound, Faulty}
 use Rattle.book.specs.declared.Reading.{Reading}
 use Rattle.book.specs.declared.Reading.the-variants as read
 use Rattle.book.specs.declared.Starts.{Starts}
-
--- ---- the first fault of a list
-
-pub sound-append : (l m : List Found) → AllSound (l ++ m) → AllSound l × AllSound m
-unfolding Each
-sound-append [] m h = (tt, h)
-sound-append (x ∷ l) m h = let next = sound-append l m (h .1) in ((h .0, next .0), next .1)
-
-pub append-sound : (l m : List Found) → AllSound l → AllSound m → AllSound (l ++ m)
-unfolding Each
-append-sound [] m h k = k
-append-sound (x ∷ l) m h k = (h .0, append-sound l m (h .1) k)
-
--- without a fault the reply is good
-pub all-sound : {R : Type 0} (refused : Fault → ℕ → R) (good : R) (l : List Found) → AllSound l → firstFault refused good l ≡ good
-unfolding Each firstFault
-all-sound refused good [] h = refl
-all-sound refused good (x ∷ l) h = rw (h .0) (all-sound refused good l (h .1))
-
--- with a first fault it is that fault
-pub first-faulty : {R : Type 0} (refused : Fault → ℕ → R) (good : R) (l : List Found) (f : Fault) (at : ℕ) (m : List Found) → AllSound l
-    → firstFault refused good (l ++ (record { place = at; look = Faulty f } ∷ m)) ≡ refused f at
-unfolding Each firstFault
-first-faulty refused good [] f at m h = refl
-first-faulty refused good (x ∷ l) f at m h = rw (h .0) (first-faulty refused good l f at m (h .1))
-
--- a list has no fault or a first one
-pub record Split (l : List Found) : Type 0 where
-  pub fault : Fault
-  pub place : ℕ
-  pub before : List Found
-  pub after : List Found
-  pub order : l ≡ before ++ (record { place = place; look = Faulty fault } ∷ after)
-  pub sound : AllSound before
-
-pub split : (l : List Found) → AllSound l ⊎ Split l
-unfolding Each
-split [] = inl tt
-split (x ∷ l) = go (x .look) refl (split l)
-  where
-    go : (k : Look) → x .look ≡ k → AllSound l ⊎ Split l → AllSound (x ∷ l) ⊎ Split (x ∷ l)
-    go Sound e (inl s) = inl (e, s)
-    go Sound e (inr s) =
-        inr record {
-          fault = s .fault;
-          place = s .place;
-          before = x ∷ s .before;
-          after = s .after;
-          order = ap (λ (m : List Found). x ∷ m) (s .order);
-          sound = (e, s .sound);
-        }
-    go (Faulty f) e s =
-        inr record {
-          fault = f;
-          place = x .place;
-          before = [];
-          after = l;
-          order = ap (λ (k : Look). record { place = x .place; look = k } ∷ l) e;
-          sound = tt;
-        }
 
 -- ---- a book without fault
 
@@ -193,7 +141,7 @@ book-sound book s =
 
 -- ---- a book without fault is a layout
 
-inside : (most n : ℕ) → outside most n ≡ false → (1 ≤ n) × (n ≤ most)
+pub inside : (most n : ℕ) → outside most n ≡ false → (1 ≤ n) × (n ≤ most)
 inside most n e = go (eqb n 0) (ltb most n) refl refl e
   where
     go : (a b : Bool) → eqb n 0 ≡ a → ltb most n ≡ b → (a || b) ≡ false → (1 ≤ n) × (n ≤ most)

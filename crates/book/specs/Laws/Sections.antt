@@ -30,6 +30,7 @@ use Rattle.book.specs.Reading.{
 }
 use Rattle.book.specs.Parts.{entriesAt, valuesAt}
 use Rattle.book.specs.Promises.{Bytes, AllSound}
+use Rattle.book.specs.Laws.First.{not-faulty, no-fault}
 use Rattle.book.specs.Laws.Codec.{
   after,
   head-at,
@@ -46,14 +47,6 @@ use Rattle.book.specs.declared.Look.{Look}
 use Rattle.book.specs.declared.Look.the-variants.{Sound, Faulty}
 use Rattle.book.specs.declared.Before.{Before}
 use Rattle.book.specs.declared.Before.the-variants.{Nothing, Entry}
-
--- a look that is sound has not this fault, and nothing after it
-pub not-faulty : (b : Bool) (f : Fault) (rest : Look) → faultIf b f rest ≡ Sound → (b ≡ false) × (rest ≡ Sound)
-not-faulty true f rest e = (cc, cc)
-not-faulty false f rest e = (refl, e)
-
-pub no-fault : (b : Bool) (f : Fault) (rest : Look) → b ≡ false → rest ≡ Sound → faultIf b f rest ≡ Sound
-no-fault b f rest e h = rw e h
 
 -- a value and its fields
 pub record Codec {A : Type 0} (kind : Kind A) (fields : A → List ℕ) : Type 0 where

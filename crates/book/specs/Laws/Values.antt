@@ -40,7 +40,8 @@ use Rattle.book.specs.Reading.{
   byMade,
 }
 use Rattle.book.specs.Laws.Codec.{Fit}
-use Rattle.book.specs.Laws.Sections.{Codec, Fits, Faultless, not-faulty, no-fault}
+use Rattle.book.specs.Laws.First.{not-faulty, no-fault}
+use Rattle.book.specs.Laws.Sections.{Codec, Fits, Faultless}
 use Rattle.book.specs.declared.Fault.the-variants as fault
 use Rattle.book.specs.declared.Look.{Look}
 use Rattle.book.specs.declared.Look.the-variants.{Sound}

@@ -8,12 +8,6 @@ use Rattle.lines.proofs.Appends.{SoFar, begin, step, fits, with-rest, f
 use borrow.Author.Needs.{needs}
 use Rattle.lines.proofs.bad_line.Statement.{statement}
 use Rattle.lines.proofs.bad_line.Tie as tie
-use Rattle.lines.proofs.bad_line.Reads as reads
-use Rattle.lines.proofs.bad_line.Lts as lts
-use Rattle.lines.proofs.text.number.Reads as number-reads
-use Rattle.lines.proofs.text.put.Reads as put-reads
-use Rattle.lines.proofs.text.wide.Reads as wide-reads
-use Rattle.lines.proofs.text.word.Reads as word-reads
 
 -- what is left after the number and after the word
 abbrev fromPlace : ℕ → List ℕ

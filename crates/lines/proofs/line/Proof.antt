@@ -10,14 +10,6 @@ use Rattle.lines.proofs.Appends.{SoFar, begin, step, fits, with-rest, f
 use borrow.Author.Needs.{needs}
 use Rattle.lines.proofs.line.Statement.{statement}
 use Rattle.lines.proofs.line.Tie as tie
-use Rattle.lines.proofs.line.Reads as reads
-use Rattle.lines.proofs.line.Lts as lts
-use Rattle.lines.proofs.sets_field.Reads as sets-field-reads
-use Rattle.lines.proofs.text.decimal.Reads as decimal-reads
-use Rattle.lines.proofs.text.number.Reads as number-reads
-use Rattle.lines.proofs.text.put.Reads as put-reads
-use Rattle.lines.proofs.text.wide.Reads as wide-reads
-use Rattle.lines.proofs.verdict_word.Reads as verdict-word-reads
 
 -- what is left after the units, the verdict, the space before it and the index
 abbrev fromSets : List ℕ → Reply → List ℕ

@@ -12,11 +12,6 @@ use Rattle.lines.proofs.Verdicts.{open-sets}
 use borrow.Author.Needs.{needs}
 use Rattle.lines.proofs.sets_field.Statement.{statement}
 use Rattle.lines.proofs.sets_field.Tie as tie
-use Rattle.lines.proofs.sets_field.Reads as reads
-use Rattle.lines.proofs.sets_field.Lts as lts
-use Rattle.lines.proofs.text.all_crews.Reads as all-crews-reads
-use Rattle.lines.proofs.text.no_set.Reads as no-set-reads
-use Rattle.lines.proofs.text.one_set.Reads as one-set-reads
 
 is-yes : (staff : List ℕ) (reply : Reply) {v : Verdict} → v ≡ Yes → space ∷ setsText staff reply v ≡ space ∷ crewsText staff (reply .crews)
 unfolding setsText

@@ -8,9 +8,6 @@ use Rattle.lines.proofs.Verdicts.{open-word}
 use borrow.Author.Needs.{needs}
 use Rattle.lines.proofs.verdict_word.Statement.{statement}
 use Rattle.lines.proofs.verdict_word.Tie as tie
-use Rattle.lines.proofs.verdict_word.Reads as reads
-use Rattle.lines.proofs.verdict_word.Lts as lts
-use Rattle.lines.proofs.text.word.Reads as word-reads
 
 is-yes : {v : Verdict} → v ≡ Yes → verdictWord v ≡ yes
 unfolding verdictWord

@@ -12,10 +12,6 @@ use Rattle.lines.proofs.Walk.{mark-joined}
 use borrow.Author.Needs.{needs}
 use Rattle.lines.proofs.text.all_crews.Statement.{statement}
 use Rattle.lines.proofs.text.all_crews.Tie as tie
-use Rattle.lines.proofs.text.all_crews.Reads as reads
-use Rattle.lines.proofs.text.all_crews.Lts as lts
-use Rattle.lines.proofs.text.crews.Reads as crews-reads
-use Rattle.lines.proofs.text.no_set.Reads as no-set-reads
 
 none : (staff sets : List ℕ) → length sets ≡ 0 → space ∷ crewsText staff sets ≡ space ∷ dash ∷ []
 unfolding joined filled

@@ -12,9 +12,6 @@ use Rattle.lines.proofs.Appends.{SoFar, begin, step, fits, with-rest, f
 use Rattle.lines.proofs.Walk.{crewsFrom, crew-next, crew-stop, crew-last}
 use Rattle.lines.proofs.text.crews.Statement.{statement}
 use Rattle.lines.proofs.text.crews.Tie as tie
-use Rattle.lines.proofs.text.crews.Reads as reads
-use Rattle.lines.proofs.text.crews.Lts as lts
-use Rattle.lines.proofs.text.members.Reads as members-reads
 
 abbrev Inv-loop : tie.InvT-loop
 Inv-loop out₀ at staff mark sets next₀ before₀ j₀ out next before j =

@@ -7,10 +7,6 @@ use Rattle.lines.proofs.Appends.{read-as, room-as}
 use borrow.Author.Needs.{needs}
 use Rattle.lines.proofs.text.member.Statement.{statement}
 use Rattle.lines.proofs.text.member.Tie as tie
-use Rattle.lines.proofs.text.member.Reads as reads
-use Rattle.lines.proofs.text.member.Lts as lts
-use Rattle.lines.proofs.text.number.Reads as number-reads
-use Rattle.lines.proofs.text.wide.Reads as wide-reads
 
 mul-wide : tie.Need-mul-wide
 mul-wide c = search needs

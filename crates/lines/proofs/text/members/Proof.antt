@@ -14,11 +14,6 @@ use Rattle.lines.proofs.Appends.{SoFar, begin, step, fits, with-rest, f
 use Rattle.lines.proofs.Walk.{member-next, member-last}
 use Rattle.lines.proofs.text.members.Statement.{statement}
 use Rattle.lines.proofs.text.members.Tie as tie
-use Rattle.lines.proofs.text.members.Reads as reads
-use Rattle.lines.proofs.text.members.Lts as lts
-use Rattle.lines.proofs.text.member.Reads as member-reads
-use Rattle.lines.proofs.text.without.Reads as without-reads
-use Rattle.sets.proofs.least.Reads as least-reads
 
 ne-zero : {n : ℕ} → (n ≡ 0 → ⊥) → 0 < n
 ne-zero h = omega arith

@@ -3,9 +3,6 @@ use Rattle.lines.proofs.Appends.{then}
 use borrow.Author.Needs.{needs}
 use Rattle.lines.proofs.text.no_set.Statement.{statement}
 use Rattle.lines.proofs.text.no_set.Tie as tie
-use Rattle.lines.proofs.text.no_set.Reads as reads
-use Rattle.lines.proofs.text.no_set.Lts as lts
-use Rattle.lines.proofs.text.put.Reads as put-reads
 
 put-requires : tie.Need-put-requires
 put-requires c κs = search needs

@@ -3,10 +3,6 @@ use Rattle.lines.proofs.Appends.{then}
 use borrow.Author.Needs.{needs}
 use Rattle.lines.proofs.text.number.Statement.{statement}
 use Rattle.lines.proofs.text.number.Tie as tie
-use Rattle.lines.proofs.text.number.Reads as reads
-use Rattle.lines.proofs.text.number.Lts as lts
-use Rattle.lines.proofs.text.decimal.Reads as decimal-reads
-use Rattle.lines.proofs.text.put.Reads as put-reads
 
 put-requires : tie.Need-put-requires
 put-requires c κs = search needs

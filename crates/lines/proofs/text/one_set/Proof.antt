@@ -10,10 +10,6 @@ use Rattle.lines.proofs.Walk.{names-none, some-names, mark-joined}
 use borrow.Author.Needs.{needs}
 use Rattle.lines.proofs.text.one_set.Statement.{statement}
 use Rattle.lines.proofs.text.one_set.Tie as tie
-use Rattle.lines.proofs.text.one_set.Reads as reads
-use Rattle.lines.proofs.text.one_set.Lts as lts
-use Rattle.lines.proofs.text.members.Reads as members-reads
-use Rattle.lines.proofs.text.no_set.Reads as no-set-reads
 
 empty : (staff : List ℕ) (set : ℕ) → set ≡ 0 → space ∷ setText staff set ≡ space ∷ dash ∷ []
 unfolding joined

@@ -10,9 +10,6 @@ use Rattle.lines.specs.Text.{Appended}
 use Rattle.lines.proofs.Appends.{then, none, same, read-as}
 use Rattle.lines.proofs.text.word.Statement.{statement}
 use Rattle.lines.proofs.text.word.Tie as tie
-use Rattle.lines.proofs.text.word.Reads as reads
-use Rattle.lines.proofs.text.word.Lts as lts
-use Rattle.lines.proofs.text.put.Reads as put-reads
 
 abbrev Inv-loop : tie.InvT-loop
 Inv-loop out₀ at bytes next₀ i₀ out next i = (i ≤ length bytes) × Appended (take i bytes) out₀ at out next
