@@ -1,8 +1,12 @@
 // Runs every edge that the rules list: the three questions, the reader of the roster book and the sheet, each reply compared with one that is
-// written out here. It prints for each group how many comparisons were made and how many differ, which has to be none.
+// written out here. It prints for each group how many comparisons were made and how many differ, which has to be none; then, of wrong replies that it
+// expects on purpose, how many are found to differ, which has to be all.
 mod draft;
+mod parts;
+mod planted;
 mod questions;
 mod reader;
+mod sheets;
 mod tables;
 mod tally;
 
@@ -45,7 +49,29 @@ fn show_reader() {
     show(b"longest book cut at every byte", reader::longest_cuts());
 }
 
+fn show_parts() {
+    show(b"rows of book B", parts::rows_of_b());
+    show(b"policies of book B", parts::policies_of_b());
+    show(b"parts of a refused book", parts::refused_book());
+}
+
+fn show_sheets() {
+    show(b"sheets", sheets::written_out());
+    show(b"sheets of the sample books", sheets::samples());
+    show(b"sheet of the longest book", sheets::longest_sheet());
+}
+
+fn show_planted() {
+    show(b"planted replies", planted::replies());
+    show(b"planted crews", planted::crew_lists());
+    show(b"planted readings", planted::readings());
+    show(b"planted sheets", planted::sheets());
+}
+
 fn main() {
     show_questions();
     show_reader();
+    show_parts();
+    show_sheets();
+    show_planted();
 }

@@ -38,13 +38,13 @@ fn read(book: Draft) -> Outcome {
 }
 
 // Whether the book is refused with this number and place.
-fn refused(book: Draft, number: u32, place: usize) -> bool {
+pub fn refused(book: Draft, number: u32, place: usize) -> bool {
     let outcome = read(book);
     outcome.number == number && outcome.place == place
 }
 
 // Whether the book is good, with its rows and its policies starting here.
-fn good(book: Draft, rows: usize, policies: usize) -> bool {
+pub fn good(book: Draft, rows: usize, policies: usize) -> bool {
     let outcome = read(book);
     outcome.number == 0
         && outcome.place == 0
