@@ -1,2 +1,9 @@
-pub mod Probe
 pub mod Rulings
+pub mod Image
+pub mod Rank
+pub mod Order
+pub mod Lists
+pub mod Swap
+pub mod Limits
+pub mod Same
+pub mod Examples

@@ -1,3 +1,5 @@
-pub mod Sets
+pub mod Mask
 pub mod Sums
 pub mod Members
+pub mod Laws
+pub mod Sets

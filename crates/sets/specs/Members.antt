@@ -1,9 +1,9 @@
 -- A mask's members as an ascending list, and the set of the numbers that pass a test. Nothing here is proved: these are definitions.
 use mathlib.Core.Bool.{Bool, true, false}
 use mathlib.Core.List.{List, [], _∷_}
-use Prim.Native.Nat.{ℕ, zero, suc, _+_, _*_, _/_, _%_, _^_}
+use Prim.Native.Nat.{ℕ, zero, suc, _*_, _/_, _%_, _^_, _≤_}
 use lib.Dec.{eqb}
-use Rattle.sets.specs.Sets.{bit}
+use Rattle.sets.specs.Mask.{bit}
 use Rattle.sets.specs.Sums.{sumTo, toN}
 
 -- x in front of the list, where the digit is not 0
@@ -16,6 +16,11 @@ unfoldable pub members : ℕ → ℕ → ℕ → List ℕ
 unfolding cons?
 members k zero m = []
 members k (suc w) m = cons? (m % 2) k (members (suc k) w (m / 2))
+
+-- the list ascends, from k or later on
+abbrev pub Ascends : ℕ → List ℕ → Type 0
+Ascends k [] = Unit
+Ascends k (x ∷ l) = (k ≤ x) × Ascends (suc x) l
 
 -- those of the list that pass the test, in its order
 unfoldable pub filter : (ℕ → Bool) → List ℕ → List ℕ

@@ -1,14 +1,15 @@
 -- No 64-bit set has a bit at 64 or past it; below, the shift leaves nothing exactly if the set is below 2 ^ rows. Assumes nothing.
-use mathlib.Core.Path.{_≡_, sym, ap, _∙_}
+use mathlib.Core.Path.{_≡_, sym}
 use mathlib.Core.Bool.{not}
-use Prim.Native.Nat.{ℕ, _+_, _*_, _/_, _%_, _^_, _≤_, _<_}
-use native.Mathlib.Nat.{lt-of-lt-of-le, lt-of-not-le, div-eq-of-lt, mod-lt}
+use Prim.Native.Nat.{ℕ, _/_, _^_, _≤_, _<_}
+use native.Mathlib.Nat.{lt-of-lt-of-le, lt-of-not-le, div-eq-of-lt}
 use native.Mathlib.Decide.{decLe}
 use native.Mathlib.Omega.{arith}
 use lib.Dec.{eqb, leb}
-use lib.Pow.{pow-mono, pow-pos, split}
+use lib.Pow.{pow-mono}
 use borrow.Author.Needs.{needs}
 use borrow.Author.Tests.{le-leb, lt-leb, eq-eqb, ne-eqb}
+use Rattle.roster.specs.Laws.Rulings.{shifted-out}
 use Rattle.roster.proofs.past_rows.Statement.{statement}
 use Rattle.roster.proofs.past_rows.Tie as tie
 
@@ -16,14 +17,8 @@ use Rattle.roster.proofs.past_rows.Tie as tie
 shifted : (k m : ℕ) → not (eqb (m / 2 ^ k) 0) ≡ leb (2 ^ k) m
 shifted k m = go (decLe (2 ^ k) m)
   where
-    some : 2 ^ k ≤ m → m / 2 ^ k ≡ 0 → ⊥
-    some l e =
-        let s : 0 * 2 ^ k + m % 2 ^ k ≡ m = ap (λ (x : ℕ). x * 2 ^ k + m % 2 ^ k) (sym e) ∙ split m k in
-        let r = mod-lt m (pow-pos k) in
-        omega arith
-
     go : Dec (2 ^ k ≤ m) → not (eqb (m / 2 ^ k) 0) ≡ leb (2 ^ k) m
-    go (yes l) = simp (ne-eqb _ _ (some l), le-leb _ _ l)
+    go (yes l) = simp (ne-eqb (m / 2 ^ k) 0 (λ e. omega (arith, shifted-out k m e)), le-leb _ _ l)
     go (no n) =
         let l : m < 2 ^ k = lt-of-not-le n in
         simp (eq-eqb _ _ (div-eq-of-lt l), lt-leb _ _ l)

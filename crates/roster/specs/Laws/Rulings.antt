@@ -1,13 +1,16 @@
 -- What a ruling says: an admitted question has its numbers within the limits, and the two orders of refusal are one order. Assumes nothing.
 use mathlib.Core.Path.{_≡_, refl, sym, ap, _∙_}
 use mathlib.Core.Logic.{_⊎_, inl, inr, _↔_}
-use mathlib.Core.Bool.{Bool, true, false}
-use Prim.Native.Nat.{ℕ, _^_, _≤_, _<_}
-use native.Mathlib.Decide.{decLt}
+use mathlib.Core.Bool.{Bool, true, false, _||_}
+use Prim.Native.Nat.{ℕ, _+_, _*_, _/_, _%_, _^_, _≤_, _<_}
+use native.Mathlib.Nat.{lt-of-not-le, lt-of-le-of-lt, div-le-self, mod-lt}
+use native.Mathlib.Decide.{decLe}
 use native.Mathlib.Omega.{arith}
+use lib.Count.{trailingZeros}
 use lib.Dec.{eqb, leb, ltb}
+use lib.Pow.{pow-pos, split}
 use borrow.Author.Tests.{ltb-false, leb-false, eqb-false}
-use Rattle.sets.specs.Sets.{Has, bit-high, lt-of-bits}
+use Rattle.sets.specs.Sets.{Has, bit-high, bit-shr, trailing-least}
 use Rattle.roster.specs.declared.Refusal.{Refusal}
 use Rattle.roster.specs.declared.Refusal.the-variants.{Rows, Task, Away, Crews, Size, Absence}
 use Rattle.roster.specs.declared.Ruling.{Ruling}
@@ -35,3 +38,90 @@ pub named-after-policy : (rows P d t A : ℕ)
 unfolding policyRuling namedRuling
 named-after-policy rows P d t A =
     in-turn (ltb rowLimit rows) (eqb P 0) (outside crewLimit d) (outside sizeLimit t) (refusedIf (leb (2 ^ rows) A) Absence Admitted)
+
+-- ---- an admitted question has its numbers within the limits
+
+pub record Within (n P s d t : ℕ) : Type 0 where
+  pub rows : n ≤ rowLimit
+  pub task : P ≡ 0 → ⊥
+  pub away : s ≤ awayLimit
+  pub some : 1 ≤ d
+  pub few : d ≤ crewLimit
+  pub member : 1 ≤ t
+  pub small : t ≤ sizeLimit
+
+-- what is admitted has no fault at its head, and none behind it
+no-fault : (b : Bool) (refusal : Refusal) (rest : Ruling) → refusedIf b refusal rest ≡ Admitted → (b ≡ false) × (rest ≡ Admitted)
+no-fault true refusal rest e = let z : _≡_ {A = ℕ} 0 1 = cc in absurd (omega arith)
+no-fault false refusal rest e = (refl, e)
+
+inside : (most x : ℕ) → outside most x ≡ false → (1 ≤ x) × (x ≤ most)
+inside most x e = go (eqb x 0) (ltb most x) refl refl e
+  where
+    go : (a b : Bool) → eqb x 0 ≡ a → ltb most x ≡ b → (a || b) ≡ false → (1 ≤ x) × (x ≤ most)
+    go true b p q r = let z : _≡_ {A = ℕ} 0 1 = cc in absurd (omega arith)
+    go false true p q r = let z : _≡_ {A = ℕ} 0 1 = cc in absurd (omega arith)
+    go false false p q r =
+        let n = eqb-false x 0 p in
+        let l = ltb-false most x q in
+        (omega arith, l)
+
+pub policy-within : (rows P s d t : ℕ) → policyRuling rows P s d t ≡ Admitted → Within rows P s d t
+unfolding policyRuling
+policy-within rows P s d t e =
+    let one = no-fault (ltb rowLimit rows) Rows _ e in
+    let two = no-fault (eqb P 0) Task _ (one .1) in
+    let three = no-fault (ltb awayLimit s) Away _ (two .1) in
+    let four = no-fault (outside crewLimit d) Crews _ (three .1) in
+    let five = no-fault (outside sizeLimit t) Size _ (four .1) in
+    record {
+      rows = ltb-false rowLimit rows (one .0);
+      task = eqb-false P 0 (two .0);
+      away = ltb-false awayLimit s (three .0);
+      some = inside crewLimit d (four .0) .0;
+      few = inside crewLimit d (four .0) .1;
+      member = inside sizeLimit t (five .0) .0;
+      small = inside sizeLimit t (five .0) .1;
+    }
+
+pub named-within : (rows P d t A : ℕ) → namedRuling rows P d t A ≡ Admitted → Within rows P 0 d t × (A < 2 ^ rows)
+unfolding policyRuling namedRuling
+named-within rows P d t A e =
+    let one = no-fault (ltb rowLimit rows) Rows _ e in
+    let two = no-fault (eqb P 0) Task _ (one .1) in
+    let four = no-fault (outside crewLimit d) Crews _ (two .1) in
+    let five = no-fault (outside sizeLimit t) Size _ (four .1) in
+    let six = no-fault (leb (2 ^ rows) A) Absence Admitted (five .1) in (
+      record {
+        rows = ltb-false rowLimit rows (one .0);
+        task = eqb-false P 0 (two .0);
+        away = omega arith;
+        some = inside crewLimit d (four .0) .0;
+        few = inside crewLimit d (four .0) .1;
+        member = inside sizeLimit t (five .0) .0;
+        small = inside sizeLimit t (five .0) .1;
+      },
+      leb-false (2 ^ rows) A (six .0),
+    )
+
+-- a shift that leaves nothing of a set shows that it is below 2 ^ k
+pub shifted-out : (k m : ℕ) → m / 2 ^ k ≡ 0 → m < 2 ^ k
+shifted-out k m e =
+    let s : 0 * 2 ^ k + m % 2 ^ k ≡ m = ap (λ (x : ℕ). x * 2 ^ k + m % 2 ^ k) (sym e) ∙ split m k in
+    omega (arith, mod-lt m (pow-pos k))
+
+-- a set is no set of rows exactly if it has a bit at or past the row count
+pub past-rows-iff : (rows A : ℕ) → A < 2 ^ 64 → (2 ^ rows ≤ A) ↔ ((i : ℕ) × (rows ≤ i) × Has A i)
+past-rows-iff rows A wide = (there, back)
+  where
+    there : 2 ^ rows ≤ A → (i : ℕ) × (rows ≤ i) × Has A i
+    there l =
+        let least = trailing-least 64 (A / 2 ^ rows) (lt-of-le-of-lt (div-le-self A (2 ^ rows)) wide) (lt-of-not-le (λ (z : A / 2 ^ rows ≤ 0). omega (arith, shifted-out rows A (omega arith)))) in
+        (rows + trailingZeros 64 (A / 2 ^ rows), omega arith, sym (bit-shr A rows _) ∙ least .has)
+
+    back : (i : ℕ) × (rows ≤ i) × Has A i → 2 ^ rows ≤ A
+    back (i, l, h) = go (decLe (2 ^ rows) A)
+      where
+        go : Dec (2 ^ rows ≤ A) → 2 ^ rows ≤ A
+        go (yes k) = k
+        go (no n) = absurd (omega (arith, bit-high A rows i (lt-of-not-le n) l))
