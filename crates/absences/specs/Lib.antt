@@ -1,3 +1,6 @@
 pub mod Tried
 pub mod Asked
-pub mod Cases
+pub mod Replied
+pub mod Walk
+pub mod Laws
+pub mod Examples

@@ -1,14 +1,15 @@
 -- 01, "Order of absences" and "Units": the absences that each search tries, in order, and what trying them costs. Nothing here is proved:
 -- these are definitions, and they run. That the lists are the right ones is shown in Laws.
-use mathlib.Core.Bool.{Bool, true, false, _&&_, _||_, not}
+use mathlib.Core.Bool.{Bool, true, false}
 use mathlib.Core.List.{List, [], _∷_, _++_}
-use Prim.Native.Nat.{ℕ, zero, suc, _+_, _^_, min}
+use Prim.Native.Nat.{ℕ, zero, suc, _+_, min}
 use lib.Bits.{bitAnd}
-use lib.Dec.{eqb, leb, ltb}
-use Rattle.sets.specs.Members.{hasb, setOf}
+use lib.Dec.{eqb}
+use Rattle.sets.specs.Members.{setOf}
 use Rattle.sets.specs.Sets.{with}
 use Rattle.roster.specs.declared.Table.{Table}
-use Rattle.roster.specs.Meaning.{held, rank}
+use Rattle.roster.specs.Meaning.{rank}
+unfoldable pub use Rattle.roster.specs.Laws.Rank.{outweighsb}
 use Rattle.crews.specs.Filling.{Outcome, filling}
 
 -- the first of the n rows from u on that has rank r
@@ -20,21 +21,19 @@ rowFrom table P r (suc n) u = elim (eqb (rank table P u) r) [ true ↦ u | false
 abbrev pub rowAt : Table → ℕ → ℕ → ℕ
 rowAt table P r = rowFrom table P r (table .rows) 0
 
--- u outweighs v, as a test
-unfoldable pub outweighsb : Table → ℕ → ℕ → ℕ → Bool
-outweighsb table P u v =
-    eqb (bitAnd (held table P v) (held table P u)) (held table P v)
-    && (not (eqb (held table P u) (held table P v)) || ltb u v)
+-- the rows that outweigh v
+abbrev pub outweighers : Table → ℕ → ℕ → ℕ
+outweighers table P v = setOf (table .rows) (λ u. outweighsb table P u v)
 
--- Which rows may be added to an absence: any, or only those whose outweighing rows are all in it already.
+-- "The search that skips tries only these; the full search tries all."
 pub data Way : Type 0 where
   full : Way
   skipping : Way
 
+-- Whether row v may be added to the absence F: always; or, so that it stays worth trying, if all that outweigh v are in F.
 unfoldable pub joins : Way → Table → ℕ → ℕ → ℕ → Bool
 joins full table P F v = true
-joins skipping table P F v =
-    eqb (bitAnd (setOf (table .rows) (λ u. outweighsb table P u v)) F) (setOf (table .rows) (λ u. outweighsb table P u v))
+joins skipping table P F v = eqb (bitAnd (outweighers table P v) F) (outweighers table P v)
 
 -- F with k more of the m rows from rank r on, those with the lower rank first
 unfoldable pub listed : Way → Table → ℕ → ℕ → ℕ → ℕ → ℕ → List ℕ
@@ -62,14 +61,17 @@ pub record Found : Type 0 where
   pub blocker : ℕ
   pub need : ℕ
 
--- "An absence tried costs one unit plus its placements. The need of a policy question is the sum over the absences tried, up to and
--- including the first that blocks, or all if none does."
+-- "An absence tried costs one unit plus its placements."
+abbrev pub unitsOf : Outcome → ℕ
+unitsOf o = 1 + o .need
+
+-- "The need of a policy question is the sum over the absences tried, up to and including the first that blocks, or all if none does."
 unfoldable pub weighed : Table → ℕ → ℕ → ℕ → List ℕ → Found
 weighed table P d t [] = record { blocked = false; blocker = 0; need = 0 }
 weighed table P d t (A ∷ rest) =
     elim (filling table P d t A .found) [
       | true ↦
           (let more = weighed table P d t rest in
-          record { blocked = more .blocked; blocker = more .blocker; need = 1 + filling table P d t A .need + more .need })
-      | false ↦ record { blocked = true; blocker = A; need = 1 + filling table P d t A .need }
+          record { blocked = more .blocked; blocker = more .blocker; need = unitsOf (filling table P d t A) + more .need })
+      | false ↦ record { blocked = true; blocker = A; need = unitsOf (filling table P d t A) }
     ]

@@ -1,3 +1,5 @@
 pub mod Filling
+pub mod Filled
 pub mod Named
 pub mod Cases
+pub mod Laws

@@ -1,5 +1,21 @@
-// Filling crews, and the question for one named absence.
+// Filling crews, and the question for one named absence. The search goes one placement deeper at a time and takes it back; what it counts
+// and in which order it goes is the definition in specs/Filling, to the unit. Holdings and holders are worked out once and lent, so that a
+// placement costs a few operations on masks.
 use roster::Policy;
+use roster::Reply;
+use roster::Ruling;
+use roster::Table;
+use roster::Verdict;
+ghost use mathlib.Core.Path.{_≡_};
+ghost use Prim.Native.Nat.{_<_};
+ghost use lib.Bits.{bitAnd, bitXor};
+ghost use lib.Count.{ones, trailingZeros};
+ghost use Rattle.roster.specs.Limits.{rowLimit, crewLimit};
+ghost use Rattle.crews.specs.Filling.{placeOf, closeOf, begin, search, plainly, holdsOf, holdersOf};
+ghost use Rattle.crews.specs.Filled.{tabulate, at, filledWith, filledOf, closedWhere, foundFrom, repliedOf, Ready};
+ghost use Rattle.roster.specs.Replies.{noCrews};
+ghost use Rattle.crews.specs.declared.Ending.the-variants.{Complete};
+ghost use Rattle.crews.specs.Named.{NamedReply};
 
 // The half-filled crews: those closed and the one being filled, the rows neither absent nor placed, and what the crew being filled holds.
 pub struct Filling {
@@ -7,4 +23,292 @@ pub struct Filling {
     pub closed: usize,
     pub free: u64,
     pub held: u32,
+}
+
+// How filling ends: with a complete list, with all lists exhausted, or because one more unit than the allowance was wanted.
+pub enum Ending {
+    Complete,
+    Exhausted,
+    Undecided,
+}
+
+// What filling comes to: the crews are all 0 unless it ends complete.
+pub struct Filled {
+    pub ending: Ending,
+    pub crews: [u64; Policy::CREWS],
+    pub units: u32,
+}
+
+impl Filling {
+    // Nothing placed, and these rows free.
+    fn begin(free: u64) -> Filling
+        ensures { λ r. ⌜ r ≡ begin free ⌝ }
+    {
+        let crews = [0; Policy::CREWS];
+        Filling {
+            crews: crews,
+            closed: 0,
+            free: free,
+            held: 0,
+        }
+    }
+
+    // The row in the crew being filled, which then holds what the row holds.
+    fn place(self, row: usize, holds: u32) -> Filling
+        requires { ⌜ (row < rowLimit) × (self .closed < crewLimit) ⌝ }
+        ensures { λ r. ⌜ r ≡ placeOf self row holds ⌝ }
+    {
+        let at = self.closed;
+        let mut crews = self.crews;
+        crews[at] = crews[at] | (1u64 << row);
+        Filling {
+            crews: crews,
+            closed: at,
+            free: self.free ^ (1u64 << row),
+            held: self.held | holds,
+        }
+    }
+
+    // The next crew begun.
+    fn close(self) -> Filling
+        requires { ⌜ self .closed < crewLimit ⌝ }
+        ensures { λ r. ⌜ r ≡ closeOf self ⌝ }
+    {
+        let crews = self.crews;
+        Filling {
+            crews: crews,
+            closed: self.closed + 1,
+            free: self.free,
+            held: 0,
+        }
+    }
+
+    // The row placed, and the crew closed where it now covers the task.
+    fn placed(self, row: usize, holds: u32, task: u32) -> Filling
+        requires { ⌜ (row < rowLimit) × (self .closed < crewLimit) ⌝ }
+        ensures { λ r. ⌜ r ≡ closedWhere task (placeOf self row holds) ⌝ }
+    {
+        let f = self.place(row, holds);
+        if missing(task, f.held) == 0 {
+            f.close()
+        } else {
+            f
+        }
+    }
+
+    // The crews as a complete list.
+    fn complete(self, units: u32) -> Filled
+        ensures { λ r. ⌜ r ≡ filledWith Complete (self .crews) units ⌝ }
+    {
+        let crews = self.crews;
+        Filled {
+            ending: Ending::Complete,
+            crews: crews,
+            units: units,
+        }
+    }
+}
+
+impl Filled {
+    // No list, for one reason or the other.
+    fn without_crews(ending: Ending, units: u32) -> Filled
+        ensures { λ r. ⌜ r ≡ filledWith ending noCrews units ⌝ }
+    {
+        Filled {
+            ending: ending,
+            crews: [0; Policy::CREWS],
+            units: units,
+        }
+    }
+}
+
+// What of the task is not held.
+fn missing(task: u32, held: u32) -> u32
+    ensures { λ r. ⌜ r ≡ bitXor task (bitAnd task held) ⌝ }
+{
+    task ^ (task & held)
+}
+
+// The free rows that hold the lowest permission of those missing. Where none is missing there is no such row.
+fn candidates(holders: &[u64], missing: u32, free: u64) -> u64
+    ensures { λ r. ⌜ r ≡ bitAnd (at (now (holders .entry)) (trailingZeros 32 missing)) free ⌝ }
+{
+    let permission = sets::lowest(missing) as usize;
+    if permission >= holders.len() {
+        return 0;
+    }
+    holders[permission] & free
+}
+
+// How filling goes on from f, where `spent` units are spent already.
+fn fill_on(
+    holds: &[u32; Policy::ROWS],
+    holders: &[u64; 32],
+    task: u32,
+    crews: usize,
+    size: u32,
+    f: Filling,
+    spent: u32,
+    allowance: u32,
+) -> Filled
+    requires { ⌜ Ready crews f spent allowance ⌝ }
+    ensures { λ r. ⌜ r ≡ filledOf allowance spent (search (ones (f .free)) (plainly (at (now (holds .entry))) (at (now (holders .entry))) task crews size) f) ⌝ }
+{
+    let list = f.crews;
+    let closed = f.closed;
+    if closed == crews {
+        return f.complete(spent);
+    }
+    if sets::size(list[closed]) >= size {
+        return Filled::without_crews(Ending::Exhausted, spent);
+    }
+    let mut rest = candidates(holders, missing(task, f.held), f.free);
+    let mut units = spent;
+    while rest != 0 {
+        if units >= allowance {
+            return Filled::without_crews(Ending::Undecided, allowance);
+        }
+        let row = sets::least(rest) as usize;
+        rest = rest ^ (1u64 << row);
+        let g = f.placed(row, holds[row], task);
+        let filled = fill_on(holds, holders, task, crews, size, g, units + 1, allowance);
+        let ending = filled.ending;
+        let Ending::Exhausted = ending else {
+            return filled;
+        };
+        units = filled.units;
+    }
+    Filled::without_crews(Ending::Exhausted, units)
+}
+
+// The crews filled from the free rows, where `spent` units are spent already. More crews than a reply has room for are not looked for.
+pub fn fill(
+    holds: &[u32; Policy::ROWS],
+    holders: &[u64; 32],
+    task: u32,
+    crews: usize,
+    size: u32,
+    free: u64,
+    spent: u32,
+    allowance: u32,
+) -> Filled
+    ensures { λ r. ⌜ r ≡ filledOf allowance spent (foundFrom (plainly (at (now (holds .entry))) (at (now (holders .entry))) task crews size) free) ⌝ }
+{
+    if spent > allowance {
+        return Filled::without_crews(Ending::Undecided, allowance);
+    }
+    if crews > Policy::CREWS {
+        return Filled::without_crews(Ending::Exhausted, spent);
+    }
+    fill_on(
+        holds,
+        holders,
+        task,
+        crews,
+        size,
+        Filling::begin(free),
+        spent,
+        allowance,
+    )
+}
+
+// Each row's holdings within the task. A row past the count holds nothing.
+pub fn holdings_within(table: Table, task: u32) -> [u32; Policy::ROWS]
+    ensures { λ r. ⌜ r ≡ tabulate rowLimit (holdsOf table task) ⌝ }
+{
+    let holdings = table.holdings;
+    let rows = table.rows;
+    let mut within = [0u32; Policy::ROWS];
+    let mut row: usize = 0;
+    while row < Policy::ROWS {
+        if row < rows {
+            within[row] = holdings[row] & task;
+        }
+        row += 1;
+    }
+    within
+}
+
+// The rows that hold the permission.
+fn holders_at(holds: &[u32; Policy::ROWS], permission: usize) -> u64
+    requires { ⌜ permission < 32 ⌝ }
+    ensures { λ r. ⌜ r ≡ holdersOf (at (now (holds .entry))) permission ⌝ }
+{
+    let mut set: u64 = 0;
+    let mut row: usize = 0;
+    while row < Policy::ROWS {
+        if (holds[row] >> permission) & 1 == 1 {
+            set = set | (1u64 << row);
+        }
+        row += 1;
+    }
+    set
+}
+
+// For each permission the rows that hold it.
+pub fn holders_of(holds: &[u32; Policy::ROWS]) -> [u64; 32]
+    ensures { λ r. ⌜ r ≡ tabulate 32 (holdersOf (at (now (holds .entry)))) ⌝ }
+{
+    let mut holders = [0u64; 32];
+    let mut permission: usize = 0;
+    while permission < 32 {
+        holders[permission] = holders_at(holds, permission);
+        permission += 1;
+    }
+    holders
+}
+
+// The reply that a filling comes to.
+fn reply_of(filled: Filled) -> Reply
+    ensures { λ r. ⌜ r ≡ repliedOf filled ⌝ }
+{
+    let crews = filled.crews;
+    let ending = filled.ending;
+    let verdict = match ending {
+        Ending::Complete => Verdict::Crews,
+        Ending::Exhausted => Verdict::None,
+        Ending::Undecided => Verdict::Undecided,
+    };
+    Reply {
+        verdict: verdict,
+        crews: crews,
+        blocker: 0,
+        units: filled.units,
+    }
+}
+
+// Which crews are left with these rows absent: the first list, none, or undecided, and the units it took.
+pub fn ask_named(
+    table: Table,
+    task: u32,
+    crews: usize,
+    size: u32,
+    absent: u64,
+    allowance: u32,
+) -> Reply
+    ensures { λ r. ⌜ NamedReply table task crews size absent allowance r ⌝ }
+{
+    let rows = table.rows;
+    match roster::named_ruling(rows, task, crews, size, absent) {
+        Ruling::Refused(refusal) => Reply {
+            verdict: Verdict::Refused(refusal),
+            crews: [0; Policy::CREWS],
+            blocker: 0,
+            units: 0,
+        },
+        Ruling::Admitted => {
+            let holds = holdings_within(table, task);
+            let holders = holders_of(&holds);
+            reply_of(fill(
+                &holds,
+                &holders,
+                task,
+                crews,
+                size,
+                sets::below(rows) & !absent,
+                0,
+                allowance,
+            ))
+        }
+    }
 }

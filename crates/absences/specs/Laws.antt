@@ -1,0 +1,6 @@
+pub mod Listed
+pub mod Only
+pub mod Weighed
+pub mod Decided
+pub mod Demands
+pub mod Same

@@ -1,0 +1,130 @@
+-- Each policy question falls under one row of the table "What comes back", by whichever search. The idea: `tried-sound`, `tried-complete` and
+-- `tried-ascending` say what the list is, exactness of the filling that its test is `Blocks`, and the swap (`first-tried`, `first-blocker-worth`,
+-- `none-worth-none`) that leaving out what is not worth trying loses neither the first blocker nor a "yes". Assumes nothing.
+use mathlib.Core.Path.{_≡_, refl, ap₂, subst}
+use mathlib.Core.Logic.{_⊎_, inl, inr}
+use mathlib.Core.Bool.{true, false}
+use Prim.Native.Nat.{ℕ, _^_, _≤_, _<_}
+use native.Mathlib.Decide.{decLe}
+use native.Mathlib.Omega.{arith}
+use lib.Count.{ones}
+use borrow.Author.Tests.{le-leb, lt-leb}
+use Rattle.sets.specs.Laws.Sums.{either}
+use Rattle.roster.specs.declared.Table.{Table}
+use Rattle.roster.specs.declared.Refusal.{Refusal}
+use Rattle.roster.specs.declared.Ruling.{Ruling}
+use Rattle.roster.specs.declared.Ruling.the-variants as ruling
+use Rattle.roster.specs.declared.Verdict.the-variants.{Yes, No, Undecided, Refused}
+use Rattle.roster.specs.Meaning.{Blocks, Absence, Holds, Earlier, First, FirstBlocker}
+use Rattle.roster.specs.Refusals.{policyRuling}
+use Rattle.roster.specs.Laws.Order.{earlier-irrefl, earlier-trans}
+use Rattle.roster.specs.Laws.Swap.{first-tried, first-blocker-worth, none-worth-none}
+use Rattle.roster.specs.Laws.Rulings.{policy-within}
+use Rattle.crews.specs.Laws.Exact.{Fair, blocks-none, finds-none}
+use Rattle.absences.specs.Tried.{Way, full, skipping, tried, Found, weighed}
+use Rattle.absences.specs.Asked.{Refuses, Admits, needPolicy}
+use Rattle.absences.specs.Replied.{judged, verdictOf}
+use Rattle.absences.specs.Laws.Listed.{Picked, tried-sound, tried-complete, tried-ascending}
+use Rattle.absences.specs.Laws.Weighed.{clash, all-fit, Stops, stops}
+
+-- ---- what is not worth trying may be skipped
+
+module _ (table : Table) (P s d t : ℕ) where
+  -- a first blocker is worth trying, so every search tries it
+  pub first-picked : (way : Way) (A : ℕ) → FirstBlocker table P s d t A → Picked way table P A
+  first-picked full A f = tt
+  first-picked skipping A f = first-blocker-worth table P s d t A f
+
+  -- the first of the blockers that a search tries is the first of all
+  picked-first : (way : Way) (A : ℕ)
+      → First table P (λ B. (ones B ≤ s) × Blocks table P d t B × Picked way table P B) A → FirstBlocker table P s d t A
+  picked-first full A f = record { rows = f .rows; is = (f .is .0, f .is .1); first = λ B h q. f .first B h (q .0, q .1, tt) }
+  picked-first skipping A f = first-tried table P s d t A .1 f
+
+  -- where nothing that a search tries blocks, nothing does
+  picked-holds : (way : Way) → ((A : ℕ) → Absence table s A → Picked way table P A → Blocks table P d t A → ⊥) → Holds table P s d t
+  picked-holds full none = λ A a b. none A a tt b
+  picked-holds skipping none = none-worth-none table P s d t none
+
+  pub first-not-holds : (A : ℕ) → FirstBlocker table P s d t A → Holds table P s d t → ⊥
+  first-not-holds A f h = h A (record { rows = f .rows; few = f .is .0 }) (f .is .1)
+
+-- ---- what the list comes to, in words of the meaning
+
+abbrev pub found : Way → Table → ℕ → ℕ → ℕ → ℕ → Found
+found way table P s d t = weighed table P d t (tried way table P s)
+
+module _ (way : Way) (table : Table) (P s d t : ℕ) (fair : Fair table P d) where
+  abbrev asked : Found
+  asked = found way table P s d t
+
+  pub none-blocks : asked .blocked ≡ false → Holds table P s d t
+  none-blocks e =
+      picked-holds table P s d t way (λ A a p b.
+      clash (all-fit table P d t (tried way table P s) e A (tried-complete way table P s A a p)) (blocks-none fair t A b))
+
+  -- where trying stops is the first blocking absence
+  pub stops-first : (B : ℕ) → Stops table P d t (tried way table P s) B → FirstBlocker table P s d t B
+  stops-first B st =
+      let is = tried-sound way table P s B (st .listed) in
+      picked-first table P s d t way B (record {
+        rows = is .0 .rows;
+        is = (omega (arith, is .0 .few), finds-none fair t B (is .0 .rows) (st .stuck), is .1);
+        first = λ C h q early.
+            before C h (is .0 .rows) early
+            (st .first (tried-ascending way table P s) C
+            (tried-complete way table P s C (record { rows = h; few = q .0 }) (q .2)) (blocks-none fair t C (q .1)));
+      })
+    where
+      before : (C : ℕ) → C < 2 ^ table .rows → B < 2 ^ table .rows → Earlier table P C B → (C ≡ B) ⊎ Earlier table P B C → ⊥
+      before C h k early (inl q) = earlier-irrefl table P B (subst (λ (x : ℕ). Earlier table P x B) q early)
+      before C h k early (inr q) = earlier-irrefl table P C (earlier-trans table P C B C h k early q)
+
+  pub one-blocks : asked .blocked ≡ true → FirstBlocker table P s d t (asked .blocker)
+  one-blocks e = stops-first (asked .blocker) (stops table P d t (tried way table P s) e)
+
+-- ---- the verdict of the definition
+
+module _ (w : Found) (allowance : ℕ) where
+  pub verdict-no : w .need ≤ allowance → w .blocked ≡ true → verdictOf w allowance ≡ No
+  verdict-no l b = ap₂ judged (le-leb (w .need) allowance l) b
+
+  pub verdict-yes : w .need ≤ allowance → w .blocked ≡ false → verdictOf w allowance ≡ Yes
+  verdict-yes l b = ap₂ judged (le-leb (w .need) allowance l) b
+
+  pub verdict-late : allowance < w .need → verdictOf w allowance ≡ Undecided
+  verdict-late l = ap₂ judged (lt-leb (w .need) allowance l) refl
+
+-- ---- which row of the table "What comes back" a question falls under
+
+pub data Case (way : Way) (table : Table) (P s d t allowance : ℕ) : Type 0 where
+  is-refused : (refusal : Refusal) → Refuses table P s d t refusal → Case way table P s d t allowance
+  is-undecided : Admits table P s d t → allowance < needPolicy way table P s d t
+      → Case way table P s d t allowance
+  is-yes : Admits table P s d t → needPolicy way table P s d t ≤ allowance → Holds table P s d t
+      → Case way table P s d t allowance
+  is-no : Admits table P s d t → needPolicy way table P s d t ≤ allowance
+      → (A : ℕ) → FirstBlocker table P s d t A → Case way table P s d t allowance
+
+-- an admitted question is one that filling decides exactly
+pub admitted-fair : (table : Table) (P s d t : ℕ) → P < 2 ^ 32 → Admits table P s d t → Fair table P d
+admitted-fair table P s d t w e =
+    let k = policy-within (table .rows) P s d t e in
+    record { rows = k .rows; task = k .task; wide = w; some = k .some; few = k .few }
+
+-- every question falls under one; P has 32 bits
+pub policy-case : (way : Way) (table : Table) (P s d t : ℕ) → P < 2 ^ 32 → (allowance : ℕ) → Case way table P s d t allowance
+policy-case way table P s d t wide allowance = under (policyRuling (table .rows) P s d t) refl
+  where
+    tells : Admits table P s d t → needPolicy way table P s d t ≤ allowance
+        → (found way table P s d t .blocked ≡ true) ⊎ (found way table P s d t .blocked ≡ false) → Case way table P s d t allowance
+    tells e l (inl b) = is-no e l (found way table P s d t .blocker) (one-blocks way table P s d t (admitted-fair table P s d t wide e) b)
+    tells e l (inr b) = is-yes e l (none-blocks way table P s d t (admitted-fair table P s d t wide e) b)
+
+    under : (r : Ruling) → policyRuling (table .rows) P s d t ≡ r → Case way table P s d t allowance
+    under (ruling.Refused refusal) e = is-refused refusal e
+    under ruling.Admitted e = pick (decLe (needPolicy way table P s d t) allowance)
+      where
+        pick : Dec (needPolicy way table P s d t ≤ allowance) → Case way table P s d t allowance
+        pick (yes l) = tells e l (either (found way table P s d t .blocked))
+        pick (no l) = is-undecided e (omega arith)

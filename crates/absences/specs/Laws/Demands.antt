@@ -1,0 +1,281 @@
+-- Demand 2 and demand 3 for the policy question, over all replies that the contracts allow: each question falls under one row of "What comes back"
+-- (`policy-case`), and all else follows from that. Assumes nothing.
+use mathlib.Core.Path.{_≡_, refl, sym, ap, _∙_, subst}
+use mathlib.Core.Logic.{_⊎_, inl, inr, _≢_, _↔_}
+use mathlib.Core.Bool.{true, false}
+use mathlib.Core.List.{List}
+use Prim.Native.Nat.{ℕ, _^_, _≤_, _<_}
+use native.Mathlib.Omega.{arith}
+use lib.ListN.{take}
+use lib.Pow.{pow-pos}
+use Rattle.sets.specs.Sets.{ones-none}
+use Rattle.sets.specs.Laws.Sums.{either}
+use Rattle.roster.specs.declared.Table.{Table}
+use Rattle.roster.specs.declared.Refusal.{Refusal}
+use Rattle.roster.specs.declared.Ruling.{Ruling}
+use Rattle.roster.specs.declared.Ruling.the-variants as ruling
+use Rattle.roster.specs.declared.Verdict.{Verdict}
+use Rattle.roster.specs.declared.Verdict.the-variants.{Yes, No, Undecided, Refused}
+use Rattle.roster.specs.declared.Reply.{Reply}
+use Rattle.roster.specs.Meaning.{CrewList, Holds, FirstBlocker}
+use Rattle.roster.specs.Refusals.{policyRuling}
+use Rattle.roster.specs.Replies.{noCrews, replyWith}
+use Rattle.roster.specs.Laws.Order.{first-blocker-unique}
+use Rattle.crews.specs.Filling.{filling}
+use Rattle.crews.specs.Named.{firstList}
+use Rattle.crews.specs.Laws.Sound.{Eight, none-at}
+use Rattle.crews.specs.Laws.Exact.{crews-eight, crews-past, Fair, finds-list, finds-none}
+use Rattle.absences.specs.Tried.{Way, full, skipping, Found}
+use Rattle.absences.specs.Asked.{Refuses, Admits, needPolicy, PolicyReply}
+use Rattle.absences.specs.Replied.{verdictOf, repliedBy, policyReplyOf}
+use Rattle.absences.specs.Laws.Listed.{tried-complete, tried-ascending}
+use Rattle.absences.specs.Laws.Decided.{first-picked, first-not-holds, found, none-blocks, stops-first, one-blocks, verdict-late, verdict-no, verdict-yes, Case, is-refused, is-undecided, is-yes, is-no, admitted-fair, policy-case}
+use Rattle.absences.specs.Laws.Weighed.{tried-thinned, thinned-need}
+
+-- ---- demand 1: every input has a reply, and only one
+
+-- P has 32 bits
+module _ (way : Way) (table : Table) (P s d t : ℕ) (wide : P < 2 ^ 32) (allowance : ℕ) where
+  abbrev need : ℕ
+  need = needPolicy way table P s d t
+
+  -- "any two replies allowed for one input are equal"
+  pub policy-same : (r q : Reply) → PolicyReply way table P s d t allowance r → PolicyReply way table P s d t allowance q → r ≡ q
+  policy-same r q a b = go (policy-case way table P s d t wide allowance)
+    where
+      go : Case way table P s d t allowance → r ≡ q
+      go (is-refused refusal e) = a .refused refusal e ∙ sym (b .refused refusal e)
+      go (is-undecided e l) = a .undecided e l ∙ sym (b .undecided e l)
+      go (is-yes e l h) = a .yes e l h ∙ sym (b .yes e l h)
+      go (is-no e l A f) = a .no e l A f ∙ sym (b .no e l A f)
+
+  -- and one is allowed: the one that the definition gives
+  pub policy-allowed : PolicyReply way table P s d t allowance (policyReplyOf way table P s d t allowance)
+  unfolding policyReplyOf
+  policy-allowed = record {
+    refused = λ refusal e. under e;
+    undecided = λ e l. under e ∙ ap gives (verdict-late w allowance l);
+    yes = λ e l h. under e ∙ ap gives (verdict-yes w allowance l (all-well e h (either (w .blocked))));
+    no = λ e l A f. under e ∙ stopped e l A f (either (w .blocked));
+  }
+    where
+      w : Found
+      w = found way table P s d t
+
+      gives : Verdict → Reply
+      gives = replyWith (firstList table P d t 0) (found way table P s d t .blocker) need allowance
+
+      under : {r : Ruling} → policyRuling (table .rows) P s d t ≡ r
+          → repliedBy (policyRuling (table .rows) P s d t) (found way table P s d t) (firstList table P d t 0) allowance
+          ≡ repliedBy r (found way table P s d t) (firstList table P d t 0) allowance
+      under e = ap (λ (x : Ruling). repliedBy x (found way table P s d t) (firstList table P d t 0) allowance) e
+
+      all-well : Admits table P s d t → Holds table P s d t → (w .blocked ≡ true) ⊎ (w .blocked ≡ false) → w .blocked ≡ false
+      all-well e h (inr b) = b
+      all-well e h (inl b) =
+          absurd (first-not-holds table P s d t (w .blocker) (one-blocks way table P s d t (admitted-fair table P s d t wide e) b) h)
+
+      stopped : Admits table P s d t → need ≤ allowance → (A : ℕ) → FirstBlocker table P s d t A
+          → (w .blocked ≡ true) ⊎ (w .blocked ≡ false) → gives (verdictOf w allowance) ≡ replyWith noCrews A need allowance No
+      stopped e l A f (inl b) =
+          let one = one-blocks way table P s d t (admitted-fair table P s d t wide e) b in
+          ap gives (verdict-no w allowance l b)
+          ∙ ap (λ (x : ℕ). replyWith noCrews x need allowance No) (first-blocker-unique table P s d t (w .blocker) A one f)
+      stopped e l A f (inr b) =
+          absurd (first-not-holds table P s d t A f (none-blocks way table P s d t (admitted-fair table P s d t wide e) b))
+
+  -- a reply that is allowed is this one
+  pub policy-is : (r : Reply) → PolicyReply way table P s d t allowance r → r ≡ policyReplyOf way table P s d t allowance
+  policy-is r a = policy-same r (policyReplyOf way table P s d t allowance) a policy-allowed
+
+-- ---- demand 2
+
+-- what a reply tells whoever reads it
+pub record Tells (way : Way) (table : Table) (P s d t allowance : ℕ) (r : Reply) : Type 0 where
+  -- refused exactly by the rules
+  pub refused : (refusal : Refusal) → (r .verdict ≡ Refused refusal) ↔ Refuses table P s d t refusal
+  -- "undecided, exactly if allowance < need"
+  pub undecided : (r .verdict ≡ Undecided) ↔ (Admits table P s d t × (allowance < needPolicy way table P s d t))
+  -- else yes exactly if the policy holds
+  pub yes : (r .verdict ≡ Yes)
+      ↔ (Admits table P s d t × (needPolicy way table P s d t ≤ allowance) × Holds table P s d t)
+  -- and no exactly if it does not
+  pub no : (r .verdict ≡ No)
+      ↔ (Admits table P s d t × (needPolicy way table P s d t ≤ allowance) × (Holds table P s d t → ⊥))
+  -- with yes comes a crew list with nobody absent, the first; else no crews; always "eight sets; those past d are 0"
+  pub crews : r .verdict ≡ Yes → (r .crews ≡ firstList table P d t 0) × CrewList table P d t 0 (take d (r .crews))
+  pub no-crews : r .verdict ≢ Yes → r .crews ≡ noCrews
+  pub eight : Eight d (r .crews)
+  -- with no the first blocking absence; else 0
+  pub blocker : r .verdict ≡ No → FirstBlocker table P s d t (r .blocker)
+  pub no-blocker : r .verdict ≢ No → r .blocker ≡ 0
+  -- the units: none, all that was allowed, or the need
+  pub unspent : (refusal : Refusal) → r .verdict ≡ Refused refusal → r .units ≡ 0
+  pub spent : r .verdict ≡ Undecided → r .units ≡ allowance
+  pub units : r .verdict ≢ Undecided → Admits table P s d t → r .units ≡ needPolicy way table P s d t
+
+-- nobody absent is an absence, so where the policy holds there is a list with nobody absent
+pub holds-list : (table : Table) (P s d t : ℕ) → Fair table P d → Holds table P s d t → CrewList table P d t 0 (take d (firstList table P d t 0))
+holds-list table P s d t fair h = go (either (filling table P d t 0 .found))
+  where
+    go : (filling table P d t 0 .found ≡ true) ⊎ (filling table P d t 0 .found ≡ false) → CrewList table P d t 0 (take d (firstList table P d t 0))
+    go (inl b) = finds-list fair t 0 b
+    go (inr b) =
+        absurd (h 0 (record { rows = pow-pos (table .rows); few = omega (arith, ones-none) })
+        (finds-none fair t 0 (pow-pos (table .rows)) b))
+
+never : {A : Type 0} → _≡_ {A = ℕ} 0 1 → A
+never e = absurd (omega arith)
+
+module _ (way : Way) (table : Table) (P s d t : ℕ) (wide : P < 2 ^ 32) (allowance : ℕ) (r : Reply) (a : PolicyReply way table P s d t allowance r) where
+  -- By the row that the question falls under: there the reply is given, and what is asked of another row cannot be.
+  pub policy-exactly : Tells way table P s d t allowance r
+  policy-exactly = go (policy-case way table P s d t wide allowance)
+    where
+      empty : r .crews ≡ noCrews → Eight d (r .crews)
+      empty e = subst (Eight d) (sym e) (record { many = refl; past = λ j m. none-at j })
+
+      go : Case way table P s d t allowance → Tells way table P s d t allowance r
+      go (is-refused refusal e) =
+          let k = a .refused refusal e in
+          let v : r .verdict ≡ Refused refusal = ap Reply.verdict k in
+          record {
+            refused = λ n. (λ q. cc, λ q. cc);
+            undecided = (λ q. never (cc), λ q. never (cc));
+            yes = (λ q. never (cc), λ q. never (cc));
+            no = (λ q. never (cc), λ q. never (cc));
+            crews = λ q. never (cc);
+            no-crews = λ q. ap Reply.crews k;
+            eight = empty (ap Reply.crews k);
+            blocker = λ q. never (cc);
+            no-blocker = λ q. ap Reply.blocker k;
+            unspent = λ n q. ap Reply.units k;
+            spent = λ q. never (cc);
+            units = λ n q. never (cc);
+          }
+      go (is-undecided e l) =
+          let k = a .undecided e l in
+          let v : r .verdict ≡ Undecided = ap Reply.verdict k in
+          record {
+            refused = λ n. (λ q. never (cc), λ q. never (cc));
+            undecided = (λ q. (e, l), λ q. v);
+            yes = (λ q. never (cc), λ q. absurd (omega (arith, q .1)));
+            no = (λ q. never (cc), λ q. absurd (omega (arith, q .1)));
+            crews = λ q. never (cc);
+            no-crews = λ q. ap Reply.crews k;
+            eight = empty (ap Reply.crews k);
+            blocker = λ q. never (cc);
+            no-blocker = λ q. ap Reply.blocker k;
+            unspent = λ n q. never (cc);
+            spent = λ q. ap Reply.units k;
+            units = λ n q. absurd (n v);
+          }
+      go (is-yes e l h) =
+          let k = a .yes e l h in
+          let v : r .verdict ≡ Yes = ap Reply.verdict k in
+          let first : r .crews ≡ firstList table P d t 0 = ap Reply.crews k in
+          record {
+            refused = λ n. (λ q. never (cc), λ q. never (cc));
+            undecided = (λ q. never (cc), λ q. absurd (omega (arith, q .1)));
+            yes = (λ q. (e, l, h), λ q. v);
+            no = (λ q. never (cc), λ q. absurd (q .2 h));
+            crews = λ q. (first, subst (λ (c : List ℕ). CrewList table P d t 0 (take d c)) (sym first) (holds-list table P s d t (admitted-fair table P s d t wide e) h));
+            no-crews = λ q. absurd (q v);
+            eight = subst (Eight d) (sym first) (record { many = crews-eight table P d t 0; past = crews-past table P d t 0 });
+            blocker = λ q. never (cc);
+            no-blocker = λ q. ap Reply.blocker k;
+            unspent = λ n q. never (cc);
+            spent = λ q. never (cc);
+            units = λ n q. ap Reply.units k;
+          }
+      go (is-no e l A f) =
+          let k = a .no e l A f in
+          let v : r .verdict ≡ No = ap Reply.verdict k in
+          record {
+            refused = λ n. (λ q. never (cc), λ q. never (cc));
+            undecided = (λ q. never (cc), λ q. absurd (omega (arith, q .1)));
+            yes = (λ q. never (cc), λ q. absurd (first-not-holds table P s d t A f (q .2)));
+            no = (λ q. (e, l, first-not-holds table P s d t A f), λ q. v);
+            crews = λ q. never (cc);
+            no-crews = λ q. ap Reply.crews k;
+            eight = empty (ap Reply.crews k);
+            blocker = λ q. subst (FirstBlocker table P s d t) (sym (ap Reply.blocker k)) f;
+            no-blocker = λ q. absurd (q v);
+            unspent = λ n q. never (cc);
+            spent = λ q. never (cc);
+            units = λ n q. ap Reply.units k;
+          }
+
+-- ---- demand 3
+
+-- both searches, or one with two allowances: whatever two of them decide, they decide alike
+module _ (table : Table) (P s d t : ℕ) (wide : P < 2 ^ 32) where
+  abbrev Alike : Reply → Reply → Type 0
+  Alike r q = (r .verdict ≡ q .verdict) × (r .crews ≡ q .crews) × (r .blocker ≡ q .blocker)
+
+  decided-alike : (way other : Way) (a b : ℕ) (r q : Reply) → PolicyReply way table P s d t a r → PolicyReply other table P s d t b q
+      → r .verdict ≢ Undecided → q .verdict ≢ Undecided → Alike r q
+  decided-alike way other a b r q k m dr dq = go (policy-case way table P s d t wide a) (policy-case other table P s d t wide b)
+    where
+      alike : {x y : Reply} → r ≡ x → q ≡ y → Alike x y → Alike r q
+      alike v w (f, g, h) = (
+        ap Reply.verdict v ∙ f ∙ sym (ap Reply.verdict w),
+        ap Reply.crews v ∙ g ∙ sym (ap Reply.crews w),
+        ap Reply.blocker v ∙ h ∙ sym (ap Reply.blocker w),
+      )
+
+      go : Case way table P s d t a → Case other table P s d t b → Alike r q
+      go (is-refused n e) c = alike (k .refused n e) (m .refused n e) (refl, refl, refl)
+      go (is-undecided e l) c = absurd (dr (ap Reply.verdict (k .undecided e l)))
+      go (is-yes e l h) (is-refused n f) = never (cc)
+      go (is-yes e l h) (is-undecided f j) = absurd (dq (ap Reply.verdict (m .undecided f j)))
+      go (is-yes e l h) (is-yes f j i) = alike (k .yes e l h) (m .yes f j i) (refl, refl, refl)
+      go (is-yes e l h) (is-no f j B i) = absurd (first-not-holds table P s d t B i h)
+      go (is-no e l A h) (is-refused n f) = never (cc)
+      go (is-no e l A h) (is-undecided f j) = absurd (dq (ap Reply.verdict (m .undecided f j)))
+      go (is-no e l A h) (is-yes f j i) = absurd (first-not-holds table P s d t A h i)
+      go (is-no e l A h) (is-no f j B i) = alike (k .no e l A h) (m .no f j A h) (refl, refl, refl)
+
+  -- "the search that skips and the search that skips nothing give the same verdict, crews and blocker whenever both decide"
+  pub demand-3-same : (a b : ℕ) (r q : Reply) → PolicyReply full table P s d t a r → PolicyReply skipping table P s d t b q
+      → r .verdict ≢ Undecided → q .verdict ≢ Undecided → (r .verdict ≡ q .verdict) × (r .crews ≡ q .crews) × (r .blocker ≡ q .blocker)
+  demand-3-same = decided-alike full skipping
+
+  -- "with no more work counted": the first blocker is worth trying, so what is skipped before it only costs the other search units
+  pub demand-3-need : Admits table P s d t → needPolicy skipping table P s d t ≤ needPolicy full table P s d t
+  demand-3-need e =
+      thinned-need table P d t (tried-thinned table P s) (tried-ascending full table P s) (λ B st.
+      let f = stops-first full table P s d t (admitted-fair table P s d t wide e) B st in
+      tried-complete skipping table P s B (record { rows = f .rows; few = f .is .0 }) (first-picked table P s d t skipping B f))
+
+  -- "The skipping one decides whenever the other does", with no more units
+  pub demand-3-decides : (a : ℕ) (r q : Reply) → PolicyReply full table P s d t a r → PolicyReply skipping table P s d t a q
+      → r .verdict ≢ Undecided → (q .verdict ≢ Undecided) × (q .units ≤ r .units)
+  demand-3-decides a r q k m dr = go (policy-case full table P s d t wide a)
+    where
+      go : Case full table P s d t a → (q .verdict ≢ Undecided) × (q .units ≤ r .units)
+      go (is-refused n e) =
+          let v = ap Reply.verdict (m .refused n e) in
+          (λ u. never (cc), omega (arith, ap Reply.units (k .refused n e), ap Reply.units (m .refused n e)))
+      go (is-undecided e l) = absurd (dr (ap Reply.verdict (k .undecided e l)))
+      go (is-yes e l h) =
+          let less = demand-3-need e in
+          let v = m .yes e (omega arith) h in
+          let w = ap Reply.verdict v in
+          (λ u. never (cc), omega (arith, ap Reply.units v, ap Reply.units (k .yes e l h)))
+      go (is-no e l A f) =
+          let less = demand-3-need e in
+          let v = m .no e (omega arith) A f in
+          let w = ap Reply.verdict v in
+          (λ u. never (cc), omega (arith, ap Reply.units v, ap Reply.units (k .no e l A f)))
+
+  -- "a larger allowance never alters a decided reply"
+  pub demand-3-larger : (way : Way) (a b : ℕ) (r q : Reply) → a ≤ b → PolicyReply way table P s d t a r → PolicyReply way table P s d t b q
+      → r .verdict ≢ Undecided → q ≡ r
+  demand-3-larger way a b r q l k m dr = go (policy-case way table P s d t wide a)
+    where
+      go : Case way table P s d t a → q ≡ r
+      go (is-refused n e) = m .refused n e ∙ sym (k .refused n e)
+      go (is-undecided e j) = absurd (dr (ap Reply.verdict (k .undecided e j)))
+      go (is-yes e j h) = m .yes e (omega arith) h ∙ sym (k .yes e j h)
+      go (is-no e j A f) = m .no e (omega arith) A f ∙ sym (k .no e j A f)

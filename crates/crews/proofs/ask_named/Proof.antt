@@ -1,0 +1,127 @@
+-- A refused question is answered by its refusal. For an admitted one the arrays say what the definition's functions say (`lent-filling`), so
+-- the reply is that of `filling` under the allowance, and by exactness that is the one allowed (`allowed-by`). Assumes nothing.
+use mathlib.Core.Path.{_≡_, refl, sym, ap, ap₂, _∙_}
+use mathlib.Core.Bool.{Bool, false}
+use mathlib.Core.List.{List}
+use Prim.Native.Nat.{ℕ, _-_, _^_, _≤_, _<_}
+use native.Mathlib.Nat.{zero-add}
+use native.Mathlib.Omega.{arith}
+use borrow.Author.Needs.{needs}
+use Rattle.sets.specs.Sets.{minus, below-within}
+use Rattle.roster.specs.declared.Table.{Table}
+use Rattle.roster.specs.declared.Refusal.{Refusal}
+use Rattle.roster.specs.declared.Ruling.the-variants as ruling
+use Rattle.roster.specs.declared.Verdict.the-variants.{Refused}
+use Rattle.roster.specs.declared.Reply.{Reply}
+use Rattle.roster.specs.Refusals.{namedRuling}
+use Rattle.roster.specs.Replies.{noCrews, replyWith}
+use Rattle.roster.specs.Laws.Rulings.{named-within}
+use Rattle.crews.specs.Filling.{Outcome, plainly, holdsOf, holdersOf, present, filling}
+use Rattle.crews.specs.Filled.{tabulate, at, endingOf, filledOf, foundFrom, verdictOf, repliedOf}
+use Rattle.crews.specs.Named.{NamedReply}
+use Rattle.crews.specs.Laws.Search.{search-none}
+use Rattle.crews.specs.Laws.Named.{allowed-by}
+use Rattle.crews.specs.Laws.Steps.{filled-fits, filled-over}
+use Rattle.crews.specs.Laws.Arrays.{lent-filling}
+use Rattle.crews.proofs.ask_named.Statement.{statement}
+use Rattle.crews.proofs.ask_named.Tie as tie
+
+module _ (table : Table) (P d t A allowance : ℕ) (wide : P < 2 ^ 32) (r : Reply) where
+  refused : (refusal : Refusal) → namedRuling (table .rows) P d t A ≡ ruling.Refused refusal
+      → r ≡ replyWith noCrews 0 0 allowance (Refused refusal) → NamedReply table P d t A allowance r
+  refused refusal e h =
+      allowed-by table P d t A allowance wide r
+      (λ other o. let same : refusal ≡ other = cc in h ∙ ap (λ (x : Refusal). replyWith noCrews 0 0 allowance (Refused x)) same)
+      (λ o l. let z : _≡_ {A = ℕ} 0 1 = cc in absurd (omega arith))
+      (λ o l f. let z : _≡_ {A = ℕ} 0 1 = cc in absurd (omega arith))
+      (λ o l f. let z : _≡_ {A = ℕ} 0 1 = cc in absurd (omega arith))
+
+  abbrev outcome : Outcome
+  outcome = filling table P d t A
+
+  abbrev told : Bool → List ℕ → ℕ → Reply
+  told found crews units = record { verdict = verdictOf (endingOf found); crews = crews; blocker = 0; units = units }
+
+  admitted : namedRuling (table .rows) P d t A ≡ ruling.Admitted → r ≡ repliedOf (filledOf allowance 0 outcome)
+      → NamedReply table P d t A allowance r
+  admitted e h =
+      allowed-by table P d t A allowance wide r
+      (λ refusal o. let z : _≡_ {A = ℕ} 0 1 = cc in absurd (omega arith))
+      (λ o l. h ∙ ap repliedOf (filled-over allowance 0 outcome (omega arith)))
+      (λ o l f.
+      h ∙ ap repliedOf (filled-fits allowance 0 outcome (omega arith))
+      ∙ ap₂ (λ (b : Bool) (n : ℕ). told b (outcome .crews) n) f (zero-add (outcome .need)))
+      (λ o l f.
+      h ∙ ap repliedOf (filled-fits allowance 0 outcome (omega arith))
+      ∙ ap₂ (λ (b : Bool) (n : ℕ). told b (outcome .crews) n) f (zero-add (outcome .need))
+      ∙ ap (λ (crews : List ℕ). told false crews (outcome .need)) (search-none _ _ _ f))
+
+-- the search over what the calls handed back is the filling of the table
+same-filling : (table : Table) (P d t A : ℕ) → table .rows ≤ 64 → P < 2 ^ 32 → d ≤ 8
+    → (holds holders : List ℕ) (all : ℕ) → holds ≡ tabulate 64 (holdsOf table P) → holders ≡ tabulate 32 (holdersOf (at holds)) → all ≡ 2 ^ table .rows - 1
+    → foundFrom (plainly (at holds) (at holders) P d t) (minus 64 all A) ≡ filling table P d t A
+same-filling table P d t A hr hP hd holds holders all eh ek ea =
+    ap (λ (x : ℕ). foundFrom (plainly (at holds) (at holders) P d t) (minus 64 x A)) ea
+    ∙ ap (λ (k : List ℕ). foundFrom (plainly (at holds) (at k) P d t) (present table A)) ek
+    ∙ ap (λ (h : List ℕ). foundFrom (plainly (at h) (at (tabulate 32 (holdersOf (at h)))) P d t) (present table A)) eh
+    ∙ lent-filling table P d t A hr hP hd
+
+named-ruling-requires : tie.Need-named-ruling-requires
+named-ruling-requires c κs = search needs
+
+enum-known-refusal : tie.Need-enum-known-refusal
+enum-known-refusal c = search needs
+
+enum-told : tie.Need-enum-told
+enum-told c = search needs
+
+holdings-within-requires : tie.Need-holdings-within-requires
+holdings-within-requires c κs = search needs
+
+holders-of-requires : tie.Need-holders-of-requires
+holders-of-requires c κs = search needs
+
+below-requires : tie.Need-below-requires
+below-requires c κs = search needs
+
+fill-requires : tie.Need-fill-requires
+fill-requires c κs = search needs
+
+reply-of-requires : tie.Need-reply-of-requires
+reply-of-requires c κs = search needs
+
+returns : tie.Need-returns
+returns c =
+    let s = c .before .before .before .before .args in
+    refused (s .table) (s .task) (s .crews) (s .size) (s .absent) (s .allowance) (c .before .before .before .before .fits .task .fits) _ (c .before .refusal .given .0 .0)
+    (sym (c .before .before .before .named-ruling .ensures) ∙ c .before .refusal .given .1) refl
+
+returns-2 : tie.Need-returns-2
+returns-2 c =
+    let s = c .before .before .before .before .before .before .before .before .before .before .before .args in
+    let wide = c .before .before .before .before .before .before .before .before .before .before .before .fits .task .fits in
+    let ok = sym (c .before .before .before .before .before .before .before .before .before .before .named-ruling .ensures) ∙ c .before .before .before .before .before .before .before .before .enum-told .given .1 in
+    let k = named-within (s .table .rows) (s .task) (s .crews) (s .size) (s .absent) ok .0 in
+    admitted (s .table) (s .task) (s .crews) (s .size) (s .absent) (s .allowance) wide (c .reply-of .result) ok
+    (c .reply-of .ensures
+    ∙ ap repliedOf
+    (c .before .fill .ensures
+    ∙ ap (filledOf (s .allowance) 0)
+    (same-filling (s .table) (s .task) (s .crews) (s .size) (s .absent) (k .rows) wide (k .few) (c .before .before .before .before .before .before .before .holdings-within .result)
+    (c .before .before .before .before .before .holders-of .result) (c .before .before .below .result) (c .before .before .before .before .before .before .before .holdings-within .ensures) (c .before .before .before .before .before .holders-of .ensures)
+    (c .before .before .below .ensures ∙ below-within 64 (s .table .rows) (k .rows)))))
+
+pub ask-named-spec : {M : Type 1} → statement M
+ask-named-spec =
+    tie.close
+    (tie.spec
+    named-ruling-requires
+    enum-known-refusal
+    enum-told
+    holdings-within-requires
+    holders-of-requires
+    below-requires
+    fill-requires
+    reply-of-requires
+    returns
+    returns-2)

@@ -1,0 +1,49 @@
+-- An allowance overspent is undecided whatever the outcome; past the limit nothing is looked for; else the search begins. Assumes nothing.
+use mathlib.Core.Path.{sym, ap, _∙_}
+use native.Mathlib.Omega.{arith}
+use lib.Count.{ones}
+use borrow.Author.Needs.{needs}
+use Rattle.crews.specs.declared.Filling.{Filling}
+use Rattle.crews.specs.Filling.{plainly}
+use Rattle.crews.specs.Filling as definition
+use Rattle.crews.specs.Filled.{at, filledOf, foundFrom}
+use Rattle.crews.specs.Laws.Steps.{filled-over, says-exhausted, found-few, found-many}
+use Rattle.crews.proofs.fill.Statement.{statement}
+use Rattle.crews.proofs.fill.Tie as tie
+
+without-crews-requires : tie.Need-without-crews-requires
+without-crews-requires c κs = search needs
+
+returns : tie.Need-returns
+returns c =
+    let s = c .before .before .args in
+    let w = plainly (at (s .holds .now)) (at (s .holders .now)) (s .task) (s .crews) (s .size) in
+    c .without-crews .ensures ∙ sym (filled-over (s .allowance) (s .spent) (foundFrom w (s .free)) (omega (arith, c .before .if1 .taken)))
+
+without-crews-requires-2 : tie.Need-without-crews-requires-2
+without-crews-requires-2 c κs = search needs
+
+returns-2 : tie.Need-returns-2
+returns-2 c =
+    let s = c .before .before .before .args in
+    let w = plainly (at (s .holds .now)) (at (s .holders .now)) (s .task) (s .crews) (s .size) in
+    c .without-crews2 .ensures
+    ∙ says-exhausted (s .allowance) (s .spent) (foundFrom w (s .free)) (found-many w (s .free) (c .before .if2 .taken)) (omega (arith, c .before .before .if1 .left))
+
+begin-requires : tie.Need-begin-requires
+begin-requires c κs = search needs
+
+fill-on-requires : tie.Need-fill-on-requires
+fill-on-requires c κs =
+    rw (c .begin .ensures) (record { few = c .before .if2 .left; closed = omega arith; within = c .before .before .if1 .left })
+
+returns-3 : tie.Need-returns-3
+returns-3 c =
+    let s = c .before .before .before .before .args in
+    let w = plainly (at (s .holds .now)) (at (s .holders .now)) (s .task) (s .crews) (s .size) in
+    c .fill-on .ensures
+    ∙ ap (λ (f : Filling). filledOf (s .allowance) (s .spent) (definition.search (ones (f .free)) w f)) (c .before .begin .ensures)
+    ∙ ap (filledOf (s .allowance) (s .spent)) (sym (found-few w (s .free) (c .before .before .if2 .left)))
+
+pub fill-spec : {M : Type 1} → statement M
+fill-spec = tie.close (tie.spec without-crews-requires returns without-crews-requires-2 returns-2 begin-requires fill-on-requires returns-3)

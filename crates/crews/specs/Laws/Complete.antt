@@ -1,0 +1,217 @@
+-- Where there are crews to be had from the free rows, the search finds some. It is kept on the way to a solution T: the crew being filled is
+-- part of T's, and what is left of T's crews is free. T's crew has a row that holds the lowest missing permission; that row is a
+-- candidate, and with it placed the search is on the way still. A crew that covers sooner than T's leaves rows over. Assumes nothing.
+use mathlib.Core.Path.{_≡_, sym, ap, _∙_}
+use mathlib.Core.Bool.{true, false, true≢false}
+use mathlib.Core.Logic.{_⊎_, inl, inr, ⊎-elim, _≢_}
+use Prim.Native.Nat.{ℕ, zero, suc, _+_, _^_, _≤_, _<_}
+use native.Mathlib.Decide.{ℕ-discrete}
+use native.Mathlib.Omega.{arith}
+use lib.Bits.{bitXor}
+use lib.Count.{ones}
+use lib.Dec.{eqb}
+use borrow.Author.Tests.{eqb-true, eqb-false}
+use Rattle.sets.specs.Sets.{bit, Has, Sub, with, bit-none, bit-below, digit, or-in, or-in-l, or-in-r, pow-in, trailing-least}
+use Rattle.sets.specs.Sets.{sub-of-has, sub-lt, has-of-sub, missing-lt, missing-in, missing-all, ones-with, ones-sub, ones-drop, bit-drop-other, drop-sub, bit-with-same}
+use Rattle.sets.specs.Laws.Sums.{either}
+use Rattle.roster.specs.Limits.{rowLimit, crewLimit}
+use Rattle.crews.specs.declared.Filling.{Filling}
+use Rattle.crews.specs.Filling.{Work, Outcome, crewOf, missingOf, placeOf, closeOf, candidates, search, begin}
+use Rattle.crews.specs.Laws.Search.{lowestOf, putOf, placed-is, Tried, among, try-finds, search-done, search-open}
+use Rattle.crews.specs.Laws.Sound.{crew, Shape, Held, here, shape-put, shape-close, shape-begin, unfinished}
+
+pub same-or-not : (m n : ℕ) → (m ≡ n) ⊎ (m ≢ n)
+same-or-not m n = ⊎-elim (λ e. inl (eqb-true m n e)) (λ e. inr (eqb-false m n e)) (either (eqb m n))
+
+-- the rule of 01: any row may begin a crew, and a crew that covers closes
+pub record Plain (w : Work) : Type 0 where
+  pub begins : (f : Filling) (u : ℕ) → w .begins f u ≡ true
+  pub closes : (f : Filling) → w .closes f ≡ true
+
+-- the work is one that is admitted, with F free at first: the holders of a permission have each free row that holds it
+pub record Ready (w : Work) (F : ℕ) : Type 0 where
+  pub plain : Plain w
+  pub few : w .crews ≤ crewLimit
+  pub some : w .task ≢ 0
+  pub wide : w .task < 2 ^ 32
+  pub rows : F < 2 ^ rowLimit
+  pub holders : (p u : ℕ) → Has F u → Has (w .holds u) p → Has (w .holders p) u
+
+-- T's crews are d, of rows that are free, pairwise disjoint, small and covering
+pub record Solves (w : Work) (F : ℕ) (T : ℕ → ℕ) : Type 0 where
+  pub free : (j u : ℕ) → j < w .crews → Has (T j) u → Has F u
+  pub apart : (i j u : ℕ) → i < w .crews → j < w .crews → Has (T i) u → Has (T j) u → i ≡ j
+  pub small : (j : ℕ) → j < w .crews → ones (T j) ≤ w .size
+  pub whole : (j : ℕ) → j < w .crews → Held w (T j)
+
+module _ (w : Work) (F : ℕ) (T : ℕ → ℕ) (r : Ready w F) (t : Solves w F T) where
+  -- the state is on the way to T, with n placements to go at most
+  record Part (f : Filling) (n : ℕ) : Type 0 where
+    shape : Shape w f
+    free : Sub (f .free) F
+    sub : (u : ℕ) → Has (crewOf f) u → Has (T (f .closed)) u
+    left : (j u : ℕ) → f .closed ≤ j → j < w .crews → Has (T j) u → Has (f .free) u ⊎ ((j ≡ f .closed) × Has (crewOf f) u)
+    held : (u p : ℕ) → Has (crewOf f) u → Has (w .holds u) p → Has (f .held) p
+    lacking : missingOf (w .task) f ≢ 0
+    fuel : ones (f .free) ≤ n
+
+  -- the next row: T's, and a candidate for a crew that is not full
+  record Next (f : Filling) : Type 0 where
+    row : ℕ
+    mine : Has (T (f .closed)) row
+    tried : Tried w f row
+
+  next : (f : Filling) (n : ℕ) → Part f n → f .closed ≢ w .crews → Next f
+  next f n a c =
+      record {
+        row = row;
+        mine = mine;
+        tried = record {
+          going = c;
+          room = omega (arith, ones-with (crewOf f) row out, ones-sub (with (crewOf f) row) (T (f .closed)) grown, t .small (f .closed) l);
+          candidate = record {
+            below = bit-below (f .free) rowLimit row (sub-lt rowLimit (f .free) F (a .free) (r .rows)) free-row;
+            holder = r .holders (lowestOf w f) row (has-of-sub (f .free) F (a .free) row free-row) (x .2);
+            free = free-row;
+          };
+        };
+      }
+    where
+      l : f .closed < w .crews
+      l = unfinished w f (a .shape) c
+
+      lowest : Has (w .task) (lowestOf w f) × (bit (f .held) (lowestOf w f) ≡ 0)
+      lowest =
+          missing-in (w .task) (f .held) (lowestOf w f)
+          (trailing-least 32 (missingOf (w .task) f) (missing-lt 32 (w .task) (f .held) (r .wide)) (omega (arith, a .lacking)) .has)
+
+      x : (u : ℕ) × Has (T (f .closed)) u × Has (w .holds u) (lowestOf w f)
+      x = t .whole (f .closed) l (lowestOf w f) (lowest .0)
+
+      row : ℕ
+      row = x .0
+
+      mine : Has (T (f .closed)) row
+      mine = x .1
+
+      -- what the crew has, it holds, and this is missing
+      out : bit (crewOf f) row ≡ 0
+      out = ⊎-elim (λ z. z) (λ o. absurd (omega (arith, a .held row (lowestOf w f) o (x .2), lowest .1))) (digit (crewOf f) row)
+
+      free-row : Has (f .free) row
+      free-row = ⊎-elim (λ h. h) (λ h. absurd (omega (arith, h .1, out))) (a .left (f .closed) row (omega arith) l mine)
+
+      grown : Sub (with (crewOf f) row) (T (f .closed))
+      grown =
+          sub-of-has (with (crewOf f) row) (T (f .closed)) (λ u q.
+          ⊎-elim (λ h. a .sub u h) (λ h. ap (bit (T (f .closed))) (pow-in row u h) ∙ mine) (or-in (crewOf f) (2 ^ row) u q))
+
+  module _ (f : Filling) (n : ℕ) (a : Part f (suc n)) (row : ℕ) (mine : Has (T (f .closed)) row) (k : Tried w f row) where
+    going : f .closed < w .crews
+    going = unfinished w f (a .shape) (k .going)
+
+    free-row : Has (f .free) row
+    free-row = k .candidate .free
+
+    joined : crew (putOf w f row) (f .closed) ≡ with (crewOf f) row
+    joined = here f row (w .holds row) (omega (arith, a .shape .eight, going, r .few))
+
+    -- who is in the crew being filled then
+    was : (u : ℕ) → Has (crew (putOf w f row) (f .closed)) u → Has (crewOf f) u ⊎ (u ≡ row)
+    was u q =
+        ⊎-elim inl (λ h. inr (pow-in row u h)) (or-in (crewOf f) (2 ^ row) u (sym (ap (λ (x : ℕ). bit x u) joined) ∙ q))
+
+    fewer : ones (bitXor (f .free) (2 ^ row)) ≤ n
+    fewer = omega (arith, ones-drop (f .free) row free-row, a .fuel)
+
+    still : (u : ℕ) → Has (f .free) u → row ≢ u → Has (bitXor (f .free) (2 ^ row)) u
+    still u h e = bit-drop-other (f .free) row u e ∙ h
+
+    -- the crew does not cover yet
+    kept : missingOf (w .task) (putOf w f row) ≢ 0 → Part (putOf w f row) n
+    unfolding placeOf
+    kept lack =
+        record {
+          shape = shape-put w f row (a .shape) going;
+          free = λ u. omega (arith, drop-sub (f .free) row free-row u, a .free u);
+          sub = λ u q. ⊎-elim (λ h. a .sub u h) (λ h. ap (bit (T (f .closed))) h ∙ mine) (was u q);
+          left = λ j u l m q. go j u l m q (ℕ-discrete row u);
+          held = λ u p q h.
+              ⊎-elim
+              (λ x. or-in-l (f .held) (w .holds row) p (a .held u p x h))
+              (λ x. or-in-r (f .held) (w .holds row) p (ap (λ (v : ℕ). bit (w .holds v) p) (sym x) ∙ h))
+              (was u q);
+          lacking = lack;
+          fuel = fewer;
+        }
+      where
+        go : (j u : ℕ) → f .closed ≤ j → j < w .crews → Has (T j) u → Dec (row ≡ u)
+            → Has (bitXor (f .free) (2 ^ row)) u ⊎ ((j ≡ f .closed) × Has (crew (putOf w f row) (f .closed)) u)
+        go j u l m q (yes e) =
+            inr (
+              t .apart j (f .closed) u m going q (ap (bit (T (f .closed))) (sym e) ∙ mine),
+              ap (λ (x : ℕ). bit x u) joined ∙ ap (bit (with (crewOf f) row)) (sym e) ∙ bit-with-same (crewOf f) row,
+            )
+        go j u l m q (no e) =
+            ⊎-elim
+            (λ h. inl (still u h e))
+            (λ h. inr (h .0, ap (λ (x : ℕ). bit x u) joined ∙ or-in-l (crewOf f) (2 ^ row) u (h .1)))
+            (a .left j u l m q)
+
+    -- it covers, and is closed
+    shut : Part (closeOf (putOf w f row)) n
+    unfolding placeOf closeOf
+    shut =
+        record {
+          shape = shape-close w (putOf w f row) (shape-put w f row (a .shape) going) going;
+          free = λ u. omega (arith, drop-sub (f .free) row free-row u, a .free u);
+          sub = λ u q. absurd (nobody u q);
+          left = λ j u l m q.
+              inl (⊎-elim
+              (λ h. still u h (λ e. absurd (let z = t .apart j (f .closed) u m going q (ap (bit (T (f .closed))) (sym e) ∙ mine) in omega arith)))
+              (λ h. absurd (let z = h .0 in omega arith))
+              (a .left j u (omega arith) m q));
+          held = λ u p q. absurd (nobody u q);
+          lacking = λ e. r .some (sym (missing-all (w .task)) ∙ e);
+          fuel = fewer;
+        }
+      where
+        begun : crew (putOf w f row) (f .closed + 1) ≡ 0
+        begun = shape-put w f row (a .shape) going .later (f .closed + 1) (omega arith)
+
+        nobody : (u : ℕ) → Has (crew (putOf w f row) (f .closed + 1)) u → ⊥
+        nobody u q = omega (arith, ap (λ (x : ℕ). bit x u) begun, bit-none u)
+
+  -- with n placements to go the search finds a list
+  finds : (n : ℕ) (f : Filling) → Part f n → search n w f .found ≡ true
+  finds zero f a =
+      ⊎-elim
+      (λ e. ap (λ (o : Outcome). o .found) (search-done w f 0 e))
+      (λ c. let x = next f 0 a c in absurd (omega (arith, ones-drop (f .free) (x .row) (x .tried .candidate .free), a .fuel)))
+      (same-or-not (f .closed) (w .crews))
+  finds (suc n) f a =
+      ⊎-elim
+      (λ e. ap (λ (o : Outcome). o .found) (search-done w f (suc n) e))
+      (λ c.
+      let x = next f (suc n) a c in
+      let row = x .row in
+      ap (λ (o : Outcome). o .found) (search-open w f n c (x .tried .room))
+      ∙ try-finds (λ g. search n w g) w f row (candidates w f) (among w f row (x .tried .candidate) (r .plain .begins f row))
+      (placed-is w f row (λ g. search n w g .found ≡ true)
+      (λ z. finds n (closeOf (putOf w f row)) (shut f n a row (x .mine) (x .tried)))
+      (λ z. finds n (putOf w f row) (kept f n a row (x .mine) (x .tried) (⊎-elim (λ y. y) (λ y. absurd (true≢false (sym (r .plain .closes _) ∙ y))) z)))))
+      (same-or-not (f .closed) (w .crews))
+
+  -- Where T solves it, the search finds a list.
+  pub complete : search (ones F) w (begin F) .found ≡ true
+  complete =
+      finds (ones F) (begin F)
+      (record {
+        shape = shape-begin w F;
+        free = λ u. omega arith;
+        sub = λ u q. absurd (omega (arith, bit-none u));
+        left = λ j u l m q. inl (t .free j u m q);
+        held = λ u p q. absurd (omega (arith, bit-none u));
+        lacking = λ e. r .some (sym (missing-all (w .task)) ∙ e);
+        fuel = omega arith;
+      })

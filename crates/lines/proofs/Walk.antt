@@ -1,0 +1,81 @@
+-- How a set's members and a reply's crews are written one after the other: what one turn of a loop writes, and what is left. Assumes nothing.
+use mathlib.Core.Path.{_≡_, refl, sym, ap, _∙_}
+use mathlib.Core.Logic.{_≢_}
+use mathlib.Core.List.{List, [], _∷_, _++_, map}
+use Prim.Native.Nat.{ℕ, zero, suc, _^_, _≤_, _<_}
+use native.Mathlib.Omega.{arith}
+use lib.Bits.{bitXor}
+use lib.Count.{trailingZeros}
+use lib.ListN.{length, getD, drop, drop-of-length-le}
+use lib.Seq.{drop-cons}
+use Rattle.sets.specs.Laws.Members.{members-empty, members-least}
+use Rattle.lines.specs.Text.{comma, slash, decimal, marked, joined}
+use Rattle.lines.specs.Lines.{names, setText, filled}
+
+-- ---- members
+
+pub names-none : (staff : List ℕ) → names staff 0 ≡ []
+unfolding names
+names-none staff = ap (map (λ row. decimal (getD staff row 0))) (members-empty 64)
+
+names-next : (staff : List ℕ) (set : ℕ) → set < 2 ^ 64 → set ≢ 0
+    → names staff set ≡ decimal (getD staff (trailingZeros 64 set) 0) ∷ names staff (bitXor set (2 ^ trailingZeros 64 set))
+unfolding names
+names-next staff set h n = ap (map (λ row. decimal (getD staff row 0))) (members-least 64 set h n)
+
+-- the least member after its mark, then the others
+pub member-next : (staff : List ℕ) (mark set row : ℕ) → set < 2 ^ 64 → set ≢ 0 → row ≡ trailingZeros 64 set
+    → marked mark comma (names staff set) ≡ (mark ∷ decimal (getD staff row 0)) ++ marked comma comma (names staff (bitXor set (2 ^ row)))
+unfolding marked
+member-next staff mark set row h n e =
+    ap (marked mark comma) (names-next staff set h n)
+    ∙ ap (λ (u : ℕ). (mark ∷ decimal (getD staff u 0)) ++ marked comma comma (names staff (bitXor set (2 ^ u)))) (sym e)
+
+pub member-last : (staff : List ℕ) (mark : ℕ) → marked mark comma (names staff 0) ≡ []
+unfolding marked
+member-last staff mark = ap (marked mark comma) (names-none staff)
+
+-- ---- a mark and then the joined list is the list that begins with the mark
+
+pub mark-joined : (mark between : ℕ) (l : List (List ℕ)) → length l ≢ 0 → mark ∷ joined between l ≡ marked mark between l
+unfolding marked joined
+mark-joined mark between [] n = absurd (n refl)
+mark-joined mark between (x ∷ l) n = refl
+
+pub some-names : (staff : List ℕ) (set : ℕ) → set < 2 ^ 64 → set ≢ 0 → length (names staff set) ≢ 0
+some-names staff set h n z = let e = ap length (names-next staff set h n) in omega arith
+
+-- ---- crews
+
+-- what is to be written of the crews from j on
+abbrev pub crewsFrom : List ℕ → List ℕ → ℕ → ℕ → List ℕ
+crewsFrom staff crews mark j = marked mark slash (map (setText staff) (filled (drop j crews)))
+
+filled-next : (crew : ℕ) (l : List ℕ) → crew ≢ 0 → filled (crew ∷ l) ≡ crew ∷ filled l
+unfolding filled
+filled-next zero l n = absurd (n refl)
+filled-next (suc crew) l n = refl
+
+filled-stop : (crew : ℕ) (l : List ℕ) → crew ≡ 0 → filled (crew ∷ l) ≡ []
+unfolding filled
+filled-stop crew l e = ap (λ (x : ℕ). filled (x ∷ l)) e
+
+-- a crew after its mark, then the others
+pub crew-next : (staff crews : List ℕ) (mark j : ℕ) → j < length crews → getD crews j 0 < 2 ^ 64 → getD crews j 0 ≢ 0
+    → crewsFrom staff crews mark j ≡ marked mark comma (names staff (getD crews j 0)) ++ crewsFrom staff crews slash (suc j)
+unfolding marked
+crew-next staff crews mark j l h n =
+    ap (λ (s : List ℕ). marked mark slash (map (setText staff) s)) (ap filled (drop-cons crews j 0 l) ∙ filled-next (getD crews j 0) (drop (suc j) crews) n)
+    ∙ ap (λ (s : List ℕ). s ++ crewsFrom staff crews slash (suc j))
+    (mark-joined mark comma (names staff (getD crews j 0)) (some-names staff (getD crews j 0) h n))
+
+-- an empty one is the end, and so is the end of the list
+pub crew-stop : (staff crews : List ℕ) (mark j : ℕ) → j < length crews → getD crews j 0 ≡ 0 → crewsFrom staff crews mark j ≡ []
+unfolding marked
+crew-stop staff crews mark j l e =
+    ap (λ (s : List ℕ). marked mark slash (map (setText staff) s)) (ap filled (drop-cons crews j 0 l) ∙ filled-stop (getD crews j 0) (drop (suc j) crews) e)
+
+pub crew-last : (staff crews : List ℕ) (mark j : ℕ) → length crews ≤ j → crewsFrom staff crews mark j ≡ []
+unfolding marked filled
+crew-last staff crews mark j l =
+    ap (λ (s : List ℕ). marked mark slash (map (setText staff) (filled s))) (drop-of-length-le crews l)

@@ -1,0 +1,105 @@
+-- The loop writes one policy's line after the other. Its measure is how many are left. Assumes nothing.
+use mathlib.Core.Path.{_≡_, sym, ap}
+use mathlib.Core.List.{List, [], _++_}
+use Prim.Native.Nat.{ℕ, suc, _+_, _-_, _≤_, _<_}
+use native.Mathlib.Numerals.{add-one}
+use native.Mathlib.Omega.{arith}
+use Rattle.book.specs.Parts.{policyCount, policyAt}
+use Rattle.lines.specs.Sheet.{lineBy, linesFrom}
+use Rattle.lines.proofs.Appends.{SoFar, begin, step, fits, with-rest, finish, same, room-as, read-as}
+use Rattle.lines.proofs.all_lines.Statement.{statement}
+use Rattle.lines.proofs.all_lines.Tie as tie
+
+-- one line more, and the others
+next : (book : List ℕ) (index count : ℕ) → index < count
+    → linesFrom book index (count - index) ≡ lineBy book index (policyAt book index) ++ linesFrom book (suc index) (count - suc index)
+unfolding linesFrom
+next book index count h = let e : count - index ≡ suc (count - suc index) = omega arith in ap (linesFrom book index) e
+
+last : (book : List ℕ) (index count : ℕ) → count ≤ index → linesFrom book index (count - index) ≡ []
+unfolding linesFrom
+last book index count h = let e : count - index ≡ 0 = omega arith in ap (linesFrom book index) e
+
+abbrev Inv-loop : tie.InvT-loop
+Inv-loop book out₀ table staff count at₀ index₀ out at index =
+    (index ≤ count) × SoFar (linesFrom book 0 count) (linesFrom book index (count - index)) out₀ 0 out at
+
+abbrev μ-loop : tie.MeasureT-loop
+μ-loop book out₀ table staff count at₀ index₀ out at index = count - index
+
+table-of-requires : tie.Need-table-of-requires Inv-loop μ-loop
+table-of-requires c κs = tt
+
+all-staff-requires : tie.Need-all-staff-requires Inv-loop μ-loop
+all-staff-requires c κs = tt
+
+policy-count-requires : tie.Need-policy-count-requires Inv-loop μ-loop
+policy-count-requires c κs = tt
+
+loop-holds : tie.Need-loop-holds Inv-loop μ-loop
+loop-holds c =
+    let book = c .before .before .before .before .before .args .book .now in
+    let e : c .policy-count .result ≡ c .policy-count .result - 0 = omega arith in
+    (omega arith, with-rest (ap (linesFrom book 0) e) (begin (linesFrom book 0 (c .policy-count .result)) _ _))
+
+-- all the lines, by the count that was read
+all : (c : tie.After-policy-count Inv-loop μ-loop) → let book = c .before .before .before .before .before .args .book .now in linesFrom book 0 (c .policy-count .result) ≡ linesFrom book 0 (policyCount book)
+all c = ap (linesFrom (c .before .before .before .before .before .args .book .now) 0) (c .policy-count .ensures .0)
+
+policy-line-requires : tie.Need-policy-line-requires Inv-loop μ-loop
+policy-line-requires c κs =
+    let l = c .before .before .before .loop in
+    let p = c .before .before .before .before in
+    let s = p .before .before .before .before .before in
+    let book = s .args .book .now in
+    let count = p .policy-count .result in (
+      p .before .all-staff .ensures,
+      p .before .before .table-of .ensures .0,
+      fits (lineBy book (l .index) (policyAt book (l .index))) (linesFrom book (suc (l .index)) (count - suc (l .index)))
+          (with-rest (next book (l .index) count (c .before .before .loop-test .taken)) (l .inv .1)) (room-as (s .args .out .now) 0 (sym (all p)) (s .pre)),
+    )
+
+add-index : tie.Need-add-index Inv-loop μ-loop
+add-index c = omega arith
+
+loop-less : tie.Need-loop-less Inv-loop μ-loop
+loop-less c = omega arith
+
+loop-again : tie.Need-loop-again Inv-loop μ-loop
+loop-again c =
+    let l = c .before .before .before .before .before .before .loop in
+    let p = c .before .before .before .before .before .before .before in
+    let book = p .before .before .before .before .before .args .book .now in
+    let count = p .policy-count .result in (
+      omega arith,
+      with-rest (ap (λ (k : ℕ). linesFrom book k (count - k)) (sym (add-one (l .index))))
+          (step (lineBy book (l .index) (policyAt book (l .index))) (with-rest (next book (l .index) count (c .before .before .before .before .before .loop-test .taken)) (l .inv .1))
+          (c .before .before .policy-line .ensures)),
+    )
+
+same-length : tie.Need-same-length Inv-loop μ-loop
+same-length c = same (c .before .loop .inv .1 .so)
+
+returns : tie.Need-returns Inv-loop μ-loop
+returns c =
+    let l = c .before .loop in
+    let p = c .before .before in
+    let book = p .before .before .before .before .before .args .book .now in
+    read-as (all p) (finish (with-rest (last book (l .index) (p .policy-count .result) (c .loop-test .left)) (l .inv .1)))
+
+pub all-lines-spec : {M : Type 1} → statement M
+all-lines-spec =
+    tie.close
+    (tie.spec
+    Inv-loop
+    μ-loop
+    table-of-requires
+    all-staff-requires
+    policy-count-requires
+    loop-holds
+    policy-line-requires
+    add-index
+    loop-less
+    loop-again
+    same-length
+    returns)

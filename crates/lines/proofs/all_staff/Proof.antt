@@ -1,0 +1,73 @@
+-- The rows passed have their numbers, and the others still 0. Assumes nothing.
+use mathlib.Core.Path.{ap, _∙_}
+use mathlib.Core.List.{List}
+use Prim.Native.Nat.{ℕ, _-_}
+use borrow.Author.Needs.{needs}
+use Rattle.crews.specs.Filled.{tabulate}
+use Rattle.crews.specs.Laws.Arrays.{Passed, passed-none, passed-stored, passed-all}
+use Rattle.book.specs.Parts.{staffAt}
+use Rattle.book.specs.declared.Starts.{Starts}
+use Rattle.lines.specs.Sheet.{staffOr0, staffOf}
+use Rattle.lines.proofs.all_staff.Statement.{statement}
+use Rattle.lines.proofs.all_staff.Tie as tie
+
+abbrev numberIn : List ℕ → ℕ → ℕ → ℕ
+numberIn book start row = staffOr0 (staffAt book start row)
+
+abbrev Inv-loop : tie.InvT-loop
+Inv-loop book start staff₀ row₀ staff row = Passed 64 (numberIn book start) row staff
+
+abbrev μ-loop : tie.MeasureT-loop
+μ-loop book start staff₀ row₀ staff row = 64 - row
+
+starts-in-requires : tie.Need-starts-in-requires Inv-loop μ-loop
+starts-in-requires c κs = tt
+
+loop-holds : tie.Need-loop-holds Inv-loop μ-loop
+loop-holds c = passed-none 64 (numberIn (c .before .before .args .book .now) (c .starts-in .result .rows))
+
+staff-of-requires : tie.Need-staff-of-requires Inv-loop μ-loop
+staff-of-requires c κs = tt
+
+mul-staff : tie.Need-mul-staff Inv-loop μ-loop
+mul-staff c = search needs
+
+array-write-staff : tie.Need-array-write-staff Inv-loop μ-loop
+array-write-staff c = search needs
+
+add-row : tie.Need-add-row Inv-loop μ-loop
+add-row c = search needs
+
+loop-less : tie.Need-loop-less Inv-loop μ-loop
+loop-less c = search needs
+
+loop-again : tie.Need-loop-again Inv-loop μ-loop
+loop-again c =
+    let l = c .before .before .loop in
+    let f = numberIn (c .before .before .before .before .before .args .book .now) (c .before .before .before .starts-in .result .rows) in
+    passed-stored 64 f (l .row) (c .staff-of .result) (l .staff) (l .inv) (c .before .loop-test .taken) (c .staff-of .ensures)
+
+returns : tie.Need-returns Inv-loop μ-loop
+unfolding staffOf
+returns c =
+    let l = c .before .loop in
+    let p = c .before .before in
+    let book = p .before .before .args .book .now in
+    passed-all 64 (numberIn book (p .starts-in .result .rows)) (l .row) (l .staff) (l .inv) (c .loop-test .left)
+    ∙ ap (λ (s : Starts). tabulate 64 (numberIn book (s .rows))) (p .starts-in .ensures .0)
+
+pub all-staff-spec : {M : Type 1} → statement M
+all-staff-spec =
+    tie.close
+    (tie.spec
+    Inv-loop
+    μ-loop
+    starts-in-requires
+    loop-holds
+    staff-of-requires
+    mul-staff
+    array-write-staff
+    add-row
+    loop-less
+    loop-again
+    returns)

@@ -1,0 +1,79 @@
+-- The line is that of the book's table, staff numbers and policy. Assumes nothing.
+use mathlib.Core.Path.{_≡_, sym, ap, ap₂, _∙_}
+use mathlib.Core.List.{List, []}
+use Prim.Native.Nat.{ℕ}
+use Rattle.roster.specs.declared.Policy.{Policy}
+use Rattle.roster.specs.declared.Table.{Table}
+use Rattle.absences.specs.Tried.{skipping}
+use Rattle.absences.specs.Replied.{policyReplyOf}
+use Rattle.book.specs.Parts.{tableOf, policyAt}
+use Rattle.book.specs.declared.Listed.{Listed}
+use Rattle.book.specs.declared.Listed.the-variants as listed
+use Rattle.lines.specs.Lines.{lineOf}
+use Rattle.lines.specs.Sheet.{allowance, staffOf, replyTo, lineBy}
+use Rattle.lines.proofs.Appends.{none, read-as, room-as}
+use borrow.Author.Needs.{needs}
+use Rattle.lines.proofs.policy_line.Statement.{statement}
+use Rattle.lines.proofs.policy_line.Tie as tie
+
+there : (book : List ℕ) (index : ℕ) (staff : List ℕ) (table : Table) (p : Policy) (l : Listed) → staff ≡ staffOf book → table ≡ tableOf book
+    → l ≡ policyAt book index → l ≡ listed.Policy p
+    → lineBy book index (policyAt book index) ≡ lineOf staff index (policyReplyOf skipping table (p .task) (p .away) (p .crews) (p .size) allowance)
+unfolding lineBy replyTo
+there book index staff table p l s t e f =
+    ap (lineBy book index) (sym e ∙ f)
+    ∙ ap₂ (λ (x : List ℕ) (y : Table). lineOf x index (policyReplyOf skipping y (p .task) (p .away) (p .crews) (p .size) allowance)) (sym s) (sym t)
+
+missing : (book : List ℕ) (index : ℕ) (l : Listed) → l ≡ policyAt book index → l ≡ listed.NoSuchPolicy → [] ≡ lineBy book index (policyAt book index)
+unfolding lineBy
+missing book index l e f = ap (lineBy book index) (sym f ∙ e)
+
+-- the line at the place where the policy is known
+line-there : (c : tie.After-policy)
+    → let a = c .before .before .before .before .before .args in
+    let p = c .policy .given .0 .0 in
+    lineBy (a .book .now) (a .index) (policyAt (a .book .now) (a .index))
+    ≡ lineOf (a .staff .now) (a .index) (policyReplyOf skipping (a .table) (p .task) (p .away) (p .crews) (p .size) allowance)
+line-there c =
+    let s = c .before .before .before .before .before in
+    let a = s .args in
+    there (a .book .now) (a .index) (a .staff .now) (a .table) (c .policy .given .0 .0) (c .before .before .policy-at .result) (s .pre .0) (s .pre .1)
+    (c .before .before .policy-at .ensures .0) (c .policy .given .1)
+
+policy-at-requires : tie.Need-policy-at-requires
+policy-at-requires c κs = search needs
+
+enum-known-policy : tie.Need-enum-known-policy
+enum-known-policy c = search needs
+
+asked-requires : tie.Need-asked-requires
+asked-requires c κs =
+    let s = c .before .before .before .before .before .before .before in
+    room-as (s .args .out .now) (s .args .at) (line-there (c .before .before)) (s .pre .2)
+
+enum-told : tie.Need-enum-told
+enum-told c = search needs
+
+same-length : tie.Need-same-length
+same-length c = search needs
+
+returns : tie.Need-returns
+returns c = read-as (sym (line-there (c .before .before .before .before .before))) (c .before .before .asked .ensures)
+
+returns-2 : tie.Need-returns-2
+returns-2 c =
+    let p = c .before .before in
+    let a = c .before .before .before .before .before .args in
+    read-as (missing (a .book .now) (a .index) (p .policy-at .result) (p .policy-at .ensures .0) (c .enum-told .given .1)) (none (a .out .now) (a .at))
+
+pub policy-line-spec : {M : Type 1} → statement M
+policy-line-spec =
+    tie.close
+    (tie.spec
+    policy-at-requires
+    enum-known-policy
+    asked-requires
+    enum-told
+    same-length
+    returns
+    returns-2)

@@ -1,0 +1,52 @@
+-- An empty set has no names, and the names of any other begin with a mark (`mark-joined`). Assumes nothing.
+use mathlib.Core.Path.{_≡_, sym, ap, _∙_}
+use mathlib.Core.Logic.{_≢_}
+use mathlib.Core.List.{List, [], _∷_}
+use Prim.Native.Nat.{ℕ, _^_, _<_}
+use Rattle.lines.specs.Text.{space, comma, dash, marked, joined}
+use Rattle.lines.specs.Lines.{names, setText}
+use Rattle.lines.proofs.Appends.{read-as, room-as}
+use Rattle.lines.proofs.Walk.{names-none, some-names, mark-joined}
+use borrow.Author.Needs.{needs}
+use Rattle.lines.proofs.text.one_set.Statement.{statement}
+use Rattle.lines.proofs.text.one_set.Tie as tie
+
+empty : (staff : List ℕ) (set : ℕ) → set ≡ 0 → space ∷ setText staff set ≡ space ∷ dash ∷ []
+unfolding joined
+empty staff set e = ap (λ (l : List (List ℕ)). space ∷ joined comma l) (ap (names staff) e ∙ names-none staff)
+
+some : (staff : List ℕ) (set : ℕ) → set < 2 ^ 64 → set ≢ 0 → space ∷ setText staff set ≡ marked space comma (names staff set)
+some staff set h n = mark-joined space comma (names staff set) (some-names staff set h n)
+
+no-set-requires : tie.Need-no-set-requires
+no-set-requires c κs =
+    let s = c .before .before .before in
+    room-as (s .args .out .now) (s .args .at) (empty (s .args .staff .now) (s .args .set) (c .before .if1 .taken)) (s .pre)
+
+members-requires : tie.Need-members-requires
+members-requires c κs =
+    let s = c .before .before .before in
+    room-as (s .args .out .now) (s .args .at) (some (s .args .staff .now) (s .args .set) (s .fits .set .fits) (c .before .if1 .left)) (s .pre)
+
+same-length : tie.Need-same-length
+same-length c = search needs
+
+returns : tie.Need-returns
+returns c =
+    let p = c .before .before .before .before in
+    let s = p .before .before in
+    read-as (sym (empty (s .args .staff .now) (s .args .set) (p .if1 .taken))) (c .before .before .no-set .ensures)
+
+same-length-2 : tie.Need-same-length-2
+same-length-2 c = search needs
+
+returns-2 : tie.Need-returns-2
+returns-2 c =
+    let p = c .before .before .before .before in
+    let s = p .before .before in
+    read-as (sym (some (s .args .staff .now) (s .args .set) (s .fits .set .fits) (p .if1 .left))) (c .before .before .members .ensures)
+
+pub one-set-spec : {M : Type 1} → statement M
+one-set-spec =
+    tie.close
+    (tie.spec no-set-requires members-requires same-length returns same-length-2 returns-2)

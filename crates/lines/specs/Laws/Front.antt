@@ -1,0 +1,34 @@
+-- 804 bytes of a book are enough: the longest has 803, and the reader's reply to a longer string is that to its first 804. Assumes nothing.
+use mathlib.Core.Path.{_≡_, sym, ap, _∙_}
+use mathlib.Core.Logic.{⊎-elim}
+use mathlib.Core.List.{List}
+use Prim.Native.Nat.{ℕ, _≤_}
+use native.Mathlib.Omega.{arith}
+use lib.ListN.{length, take}
+use lib.Seq.{take-all}
+use borrow.Author.Tests.{ltb-false}
+use Rattle.book.specs.Reading.{countAt, past}
+use Rattle.book.specs.Laws.Books.{rowsAt, policiesAt, BookSound, Good, Refused, inside, reply}
+use Rattle.book.specs.Laws.Prefix.{prefix-reply}
+use Rattle.lines.specs.Sheet.{sheetBy, sheetOf}
+
+-- a book without fault is no longer than its counts allow
+sound-short : (book : List ℕ) → BookSound book → length book ≤ 803
+unfolding past
+sound-short book s =
+    let listed : countAt book 0 ≤ 32 = inside 32 (countAt book 0) (s .first .inRange) .1 in
+    let many : countAt book (rowsAt book) ≤ 64 = ltb-false 64 (countAt book (rowsAt book)) (s .second .inRange) in
+    let asked : countAt book (policiesAt book) ≤ 32 = ltb-false 32 (countAt book (policiesAt book)) (s .third .inRange) in
+    omega (arith, s .ends)
+
+-- the sheet of any string is that of its first 804 bytes
+pub sheet-front : (book : List ℕ) → sheetOf (take 804 book) ≡ sheetOf book
+unfolding sheetOf sheetBy
+sheet-front book = ⊎-elim good refused (reply book)
+  where
+    good : Good book → sheetOf (take 804 book) ≡ sheetOf book
+    good g = ap sheetOf (take-all 804 book (omega (arith, sound-short book (g .sound))))
+
+    refused : Refused book → sheetOf (take 804 book) ≡ sheetOf book
+    refused r =
+        ap (sheetBy (take 804 book)) (sym (prefix-reply book) ∙ r .reply) ∙ sym (ap (sheetBy book) (r .reply))
