@@ -10,7 +10,7 @@ use native.Mathlib.Omega.{arith}
 use lib.Dec.{eqb, leb, ltb}
 use lib.ListN.{length, getD, List·getD-eq-default}
 use borrow.Author.Tests.{le-leb, lt-leb, le-ltb, lt-ltb, eq-eqb, ne-eqb}
-use Rattle.roster.specs.Laws.Rulings.{shifted-out}
+use Rattle.sets.specs.Sets.{shifted-out}
 use Rattle.book.specs.Reading.{number}
 
 -- past the end there are zeros

@@ -16,7 +16,7 @@ use Rattle.roster.specs.Limits.{rowLimit}
 use Rattle.book.specs.Layout.{permissionLimit, policyLimit}
 use Rattle.book.specs.Reading.{Found, Kind, number, fieldsAt, total, codes, rows, policies, faultIf, width, entryAt, prior, countLook, entryLook, inTurn, countAt, sectionLooks, past, listedIn, endLook, firstFault, readOf}
 use Rattle.book.specs.Laws.First.{not-faulty, first-append}
-use Rattle.book.specs.Laws.Books.{inside}
+use Rattle.roster.specs.Laws.Rulings.{inside}
 use Rattle.book.specs.declared.Fault.{Fault}
 use Rattle.book.specs.declared.Fault.the-variants as fault
 use Rattle.book.specs.declared.Look.{Look}
