@@ -1,26 +1,23 @@
 -- One absence tried: a unit, and what filling the crews from the rows that are left comes to. Assumes nothing.
-use mathlib.Core.Path.{_≡_, refl, sym, ap, ap₂, _∙_}
+use mathlib.Core.Path.{_≡_, sym, ap, ap₂, _∙_}
 use mathlib.Core.Logic.{⊎-elim}
-use mathlib.Core.Bool.{Bool, true, false}
 use mathlib.Core.List.{List, [], _∷_}
 use Prim.Native.Nat.{ℕ, _+_, _-_, _^_, _≤_, _<_}
 use native.Mathlib.Nat.{add-zero, mod-eq-of-lt}
 use native.Mathlib.Omega.{arith}
 use lib.Bits.{bitAnd, and-mask}
 use lib.Pow.{pow-mono, ones-lt}
-use borrow.Author.Tests.{le-leb}
 use Rattle.sets.specs.Laws.Sums.{either}
 use Rattle.roster.specs.declared.Table.{Table}
-use Rattle.roster.specs.Limits.{rowLimit, crewLimit}
+use Rattle.roster.specs.Limits.{rowLimit}
 use Rattle.crews.specs.declared.Ending.{Ending}
 use Rattle.crews.specs.declared.Ending.the-variants as ending
 use Rattle.crews.specs.declared.Filled.{Filled}
-use Rattle.crews.specs.Filling.{Work, Outcome, plainly, holdsOf, holdersOf, workOf, searchFrom, filling}
+use Rattle.crews.specs.Filling.{Outcome, plainly, holdersOf, filling}
 use Rattle.crews.specs.Filled.{tabulate, at, filledOf, foundFrom}
-use Rattle.crews.specs.Laws.Arrays.{lent-work}
+use Rattle.crews.specs.Laws.Arrays.{lent-filling}
 use Rattle.crews.specs.Laws.Steps as steps
 use Rattle.absences.specs.declared.Search.{Search}
-use Rattle.absences.specs.declared.Walked.{Walked}
 use Rattle.absences.specs.Tried.{Found, unitsOf, weighed}
 use Rattle.absences.specs.Walk.{Lent, courseOf, walkedFrom, walkedOf}
 use Rattle.absences.specs.Laws.Weighed.{weighed-fits, weighed-blocks, weighed-none, dearer}
@@ -30,14 +27,11 @@ use Rattle.absences.proofs.Spent.{undecidedAt, walked-fits, walked-over
 module _ (table : Table) (s : Search) (holds holders : List ℕ) (lent : Lent table s holds holders) where
   pub fills : (free A : ℕ) → free ≡ bitAnd (s .everyone) ((2 ^ rowLimit - 1) - A)
       → foundFrom (plainly (at holds) (at holders) (s .task) (s .crews) (s .size)) free ≡ filling table (s .task) (s .crews) (s .size) A
-  unfolding foundFrom
   fills free A e =
-      rw (le-leb _ _ (lent .few), foundFrom)
-      (ap₂ searchFrom
-      (ap₂ (λ (h k : List ℕ). plainly (at h) (at k) (s .task) (s .crews) (s .size)) (lent .held)
+      ap₂ (λ (h k : List ℕ). foundFrom (plainly (at h) (at k) (s .task) (s .crews) (s .size)) free) (lent .held)
       (lent .holding ∙ ap (λ (h : List ℕ). tabulate 32 (holdersOf (at h))) (lent .held))
-      ∙ lent-work table (s .task) (s .crews) (s .size) (lent .small) (lent .wide))
-      (e ∙ ap (λ (all : ℕ). bitAnd all ((2 ^ rowLimit - 1) - A)) (lent .everyone)))
+      ∙ ap (foundFrom _) (e ∙ ap (λ (all : ℕ). bitAnd all ((2 ^ rowLimit - 1) - A)) (lent .everyone))
+      ∙ lent-filling table (s .task) (s .crews) (s .size) A (lent .small) (lent .wide) (lent .few)
 
   -- with nobody absent everyone is left
   pub nobody : s .everyone ≡ bitAnd (s .everyone) ((2 ^ rowLimit - 1) - 0)

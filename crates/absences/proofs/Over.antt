@@ -1,21 +1,22 @@
 -- The ranks are decided one by one. A row may join what is absent exactly if no row passed over outweighs it: of two rows passed over where one
 -- outweighs the other, the first speaks for both, since outweighing goes on. Assumes nothing.
 use mathlib.Core.Path.{_≡_, refl, sym, ap, _∙_, subst}
-use mathlib.Core.Logic.{_⊎_, inl, inr, ⊎-elim, _≢_}
-use mathlib.Core.Bool.{Bool, true, false}
-use Prim.Native.Nat.{ℕ, zero, suc, _+_, _^_, _≤_, _<_}
+use mathlib.Core.Logic.{_⊎_, inl, inr, ⊎-elim}
+use mathlib.Core.Bool.{true, false}
+use Prim.Native.Nat.{ℕ, _+_, _<_}
 use native.Mathlib.Decide.{ℕ-discrete}
 use native.Mathlib.Omega.{arith}
 use lib.Dec.{T}
-use Rattle.sets.specs.Sets.{bit, Has, with, bit-none, bit-with-same, bit-with-other}
+use Rattle.sets.specs.Sets.{Has, with, bit-none, bit-with-same, bit-with-other}
 use Rattle.sets.specs.Laws.Sums.{either}
 use Rattle.roster.specs.declared.Table.{Table}
 use Rattle.roster.specs.Meaning.{rank, Outweighs}
 use Rattle.roster.specs.Laws.Rank.{rank-inj, outweighsb, outweighs-iff, outweighs-rank, outweighs-trans}
-use Rattle.absences.specs.Tried.{Way, full, skipping, rowAt, joins}
+use Rattle.absences.specs.Tried.{full, skipping, rowAt, joins}
 use Rattle.absences.specs.Laws.Listed.{rowAt-lt, rank-rowAt, joins-iff}
 use Rattle.absences.specs.Laws.Weighed.{clash}
-use Rattle.absences.specs.Walk.{Over}
+use Rattle.absences.specs.declared.Prefix.{Prefix}
+use Rattle.absences.specs.Walk.{takenBy, passedBy, leftBy, Over, nobody}
 
 -- a member of m with i is i, or one of m
 with-cases : (m i u : ℕ) → Has (with m i) u → (i ≡ u) ⊎ Has m u
@@ -39,7 +40,7 @@ none : (u : ℕ) → Has 0 u → ⊥
 none u h = omega (arith, bit-none u)
 
 module _ (table : Table) (P : ℕ) where
-  pub over-none : Over table P 0 0 0
+  pub over-none : Over table P nobody
   over-none = record {
     taken = λ u h. absurd (none u h);
     left = λ u h. absurd (none u h);
@@ -47,7 +48,16 @@ module _ (table : Table) (P : ℕ) where
     decided = λ u l k. absurd (omega arith);
   }
 
-  module _ (F O r : ℕ) (o : Over table P F O r) (l : r < table .rows) where
+  module _ (f : Prefix) (o : Over table P f) (l : f .next < table .rows) where
+    abbrev F : ℕ
+    F = f .absent
+
+    abbrev O : ℕ
+    O = f .passed
+
+    abbrev r : ℕ
+    r = f .next
+
     abbrev v : ℕ
     v = rowAt table P r
 
@@ -70,7 +80,7 @@ module _ (table : Table) (P : ℕ) where
     fresh u e p = omega (arith, p .1, rank-rowAt table P r l, ap (rank table P) e)
 
     -- v joins
-    pub over-join : Over table P (with F v) O (r + 1)
+    pub over-join : Over table P (takenBy f v)
     over-join = record {
       taken = λ u h. ⊎-elim (here u) (λ k. later u (o .taken u k)) (with-cases F v u h);
       left = λ u h. later u (o .left u h);
@@ -83,7 +93,7 @@ module _ (table : Table) (P : ℕ) where
     }
 
     -- v is passed over
-    pub over-pass : Over table P F (with O v) (r + 1)
+    pub over-pass : Over table P (passedBy f v)
     over-pass = record {
       taken = λ u h. later u (o .taken u h);
       left = λ u h. ⊎-elim (here u) (λ k. later u (o .left u k)) (with-cases O v u h);
@@ -96,7 +106,7 @@ module _ (table : Table) (P : ℕ) where
     }
 
     -- v cannot join: a row of those passed over outweighs it
-    pub over-leave : (w : ℕ) → Has O w → Outweighs table P w v → Over table P F O (r + 1)
+    pub over-leave : (w : ℕ) → Has O w → Outweighs table P w v → Over table P (leftBy f)
     over-leave w h q = record {
       taken = λ u k. later u (o .taken u k);
       left = λ u k. later u (o .left u k);
@@ -121,11 +131,11 @@ module _ (table : Table) (P : ℕ) where
     joins-full = refl
 
     pub joins-free : ((u : ℕ) → Has O u → outweighsb table P u v ≡ false) → joins skipping table P F v ≡ true
-    joins-free f =
+    joins-free free =
         joins-iff skipping table P F v .1 (λ u lu q.
         ⊎-elim
         (λ h. h)
-        (λ w. absurd (clash (test-of (w .0) (speaks u (w .0) (w .2) q)) (f (w .0) (w .1))))
+        (λ w. absurd (clash (test-of (w .0) (speaks u (w .0) (w .2) q)) (free (w .0) (w .1))))
         (o .decided u lu (omega (arith, outweighs-rank table P u v lu q, rank-rowAt table P r l))))
 
     pub joins-kept : (u : ℕ) → Has O u → outweighsb table P u v ≡ true → joins skipping table P F v ≡ false

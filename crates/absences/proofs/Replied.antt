@@ -1,11 +1,10 @@
 -- The reply is that of the whole list of absences: nobody absent first, then the sizes from 1 on. Assumes nothing.
 use mathlib.Core.Path.{_≡_, refl, sym, ap, ap₂, _∙_}
-use mathlib.Core.Bool.{Bool, true, false}
-use mathlib.Core.List.{List, [], _∷_, _++_}
-use Prim.Native.Nat.{ℕ, _+_, _-_, _^_, _≤_, _<_}
+use mathlib.Core.Logic.{_≢_}
+use mathlib.Core.List.{List, [], _∷_}
+use Prim.Native.Nat.{ℕ, _+_, _≤_}
 use native.Mathlib.Nat.{zero-add}
 use native.Mathlib.Omega.{arith}
-use lib.Bits.{bitAnd, and-mask}
 use Rattle.roster.specs.declared.Table.{Table}
 use Rattle.roster.specs.declared.Reply.{Reply}
 use Rattle.roster.specs.declared.Ruling.{Ruling}
@@ -30,7 +29,7 @@ use Rattle.absences.specs.Walk.{courseOf, walkedFrom, walkedOf, walkedBy
 use Rattle.absences.specs.Laws.Weighed.{andThen, weighed-append}
 use Rattle.absences.specs.Laws.Decided.{verdict-late, verdict-no, verdict-yes}
 use Rattle.absences.proofs.Absent.{absent-told}
-use Rattle.absences.proofs.Spent.{Judged, is-open, is-blocked, is-over, judge, walked-fits, walked-over, open-blocked, open-undecided, turn-open, turn-blocked, turn-undecided}
+use Rattle.absences.proofs.Spent.{Judged, is-open, is-blocked, is-over, judge, walked-fits, walked-over, open-blocked, open-undecided, turn-open, turn-stopped}
 
 -- the reply from where the search has come to is that from what the absences come to
 pub reply-told : (most : ℕ) (w : Found) (r : Walked) (crews : List ℕ) → r ≡ walkedOf most 0 w
@@ -98,17 +97,16 @@ module _ (table : Table) (s : Search) (most : ℕ) (first : Filled)
       ap (λ (c : List ℕ). replyFrom (r .course) c (r .blocker) (r .units)) (crews-first o)
       ∙ whole r (h ∙ sym (turn-open (s .allowance) 0 (tries (0 ∷ [])) (tries rest) nobody alone o .0))
 
-  pub all-blocked : nobody .course ≡ Blocked → replyFrom (nobody .course) (first .crews) (nobody .blocker) (nobody .units) ≡ searchedBy table s most
-  all-blocked o =
-      ap (λ (x : Course). replyFrom x (first .crews) (nobody .blocker) (nobody .units)) o
-      ∙ sym (ap (λ (x : Course). replyFrom x crews (nobody .blocker) (nobody .units)) o)
-      ∙ whole nobody (turn-blocked (s .allowance) 0 (tries (0 ∷ [])) (tries rest) nobody alone o)
-
-  pub all-undecided : nobody .course ≡ Undecided → replyFrom (nobody .course) (first .crews) (nobody .blocker) (nobody .units) ≡ searchedBy table s most
-  all-undecided o =
-      ap (λ (x : Course). replyFrom x (first .crews) (nobody .blocker) (nobody .units)) o
-      ∙ sym (ap (λ (x : Course). replyFrom x crews (nobody .blocker) (nobody .units)) o)
-      ∙ whole nobody (turn-undecided (s .allowance) 0 (tries (0 ∷ [])) (tries rest) nobody alone o)
+  pub all-stopped : nobody .course ≢ Open → replyFrom (nobody .course) (first .crews) (nobody .blocker) (nobody .units) ≡ searchedBy table s most
+  all-stopped o =
+      unlisted (nobody .course) o
+      ∙ whole nobody (turn-stopped (s .allowance) 0 (tries (0 ∷ [])) (tries rest) nobody alone o)
+    where
+      -- only a "yes" has crews
+      unlisted : (x : Course) → x ≢ Open → replyFrom x (first .crews) (nobody .blocker) (nobody .units) ≡ replyFrom x crews (nobody .blocker) (nobody .units)
+      unlisted Open n = absurd (n refl)
+      unlisted Blocked n = refl
+      unlisted Undecided n = refl
 
 -- the definition's reply, by the ruling
 pub ruled : (way : Way) (table : Table) (P away d t allowance : ℕ) (x : Ruling) → policyRuling (table .rows) P away d t ≡ x

@@ -1,26 +1,27 @@
 -- The sizes one after the other: trying nobody absent and then the sizes from 1 on is trying all that 01 lists. Assumes nothing.
 use mathlib.Core.Path.{_≡_, refl, sym, ap, ap₂, _∙_}
-use mathlib.Core.List.{List, [], _∷_, _++_, append-nil}
+use mathlib.Core.Logic.{_≢_}
+use mathlib.Core.List.{List, _∷_, _++_, append-nil}
 use Prim.Native.Nat.{ℕ, zero, suc, _+_, _-_, _≤_, _<_, min}
 use native.Mathlib.Nat.{sub-zero}
 use native.Mathlib.Omega.{arith}
 use Rattle.roster.specs.declared.Table.{Table}
 use Rattle.absences.specs.declared.Search.{Search}
-use Rattle.absences.specs.declared.Course.the-variants.{Open, Blocked, Undecided}
+use Rattle.absences.specs.declared.Course.the-variants.{Open}
 use Rattle.absences.specs.declared.Walked.{Walked}
 use Rattle.absences.specs.Tried.{listed, sizesFrom, tried, Found, weighed}
-use Rattle.absences.specs.Walk.{wayOf, walkedOf, walkedBy, onward, sized}
+use Rattle.absences.specs.Walk.{wayOf, walkedOf, walkedBy, onward, nobody, sized}
 use Rattle.absences.specs.Laws.Weighed.{andThen, weighed-append, weighed-none}
-use Rattle.absences.proofs.Spent.{openAt, walked-none, turn-open, turn-blocked, turn-undecided}
+use Rattle.absences.proofs.Spent.{openAt, walked-none, turn-open, turn-stopped}
 use Rattle.absences.proofs.Turns.{turn-whole}
 
 module _ (table : Table) (s : Search) where
-  all-ranks : (k : ℕ) → listed (wayOf (s .skipping)) table (s .task) (table .rows) k 0 0 ≡ onward table s k 0 0
+  all-ranks : (k : ℕ) → listed (wayOf (s .skipping)) table (s .task) (table .rows) k 0 0 ≡ onward table s k nobody
   all-ranks k = ap (λ (m : ℕ). listed (wayOf (s .skipping)) table (s .task) m k 0 0) (sym (sub-zero (table .rows)))
 
   sizes-sized : (n k : ℕ) → sizesFrom (wayOf (s .skipping)) table (s .task) n k ≡ sized table s (suc n) k
   unfolding sizesFrom sized
-  sizes-sized zero k = all-ranks k ∙ sym (append-nil (onward table s k 0 0))
+  sizes-sized zero k = all-ranks k ∙ sym (append-nil (onward table s k nobody))
   sizes-sized (suc n) k = ap₂ _++_ (all-ranks k) (sizes-sized n (suc k))
 
   -- all that is tried
@@ -28,7 +29,7 @@ module _ (table : Table) (s : Search) where
   unfolding sized
   tried-sized away =
       sizes-sized (min away (table .rows)) 0
-      ∙ ap (λ (l : List ℕ). l ++ sized table s (min away (table .rows)) 1) (sym (turn-whole table s 0 0 0 refl))
+      ∙ ap (λ (l : List ℕ). l ++ sized table s (min away (table .rows)) 1) (sym (turn-whole table s 0 nobody refl))
 
   -- ---- one size
 
@@ -48,28 +49,25 @@ module _ (table : Table) (s : Search) where
         (ap (λ (n : ℕ). tries (sized table s n k)) z ∙ weighed-none table (s .task) (s .crews) (s .size)) h
 
     -- the absences of this size come to c
-    module _ (l : k ≤ most) (c : Walked) (h : c ≡ walkedBy table s units (onward table s k 0 0)) where
-      unrolled : sized table s ((most + 1) - k) k ≡ onward table s k 0 0 ++ rest
+    module _ (l : k ≤ most) (c : Walked) (h : c ≡ walkedBy table s units (onward table s k nobody)) where
+      unrolled : sized table s ((most + 1) - k) k ≡ onward table s k nobody ++ rest
       unfolding sized
       unrolled =
           let one : (most + 1) - k ≡ suc ((most + 1) - (k + 1)) = omega arith in
           let next : suc k ≡ k + 1 = omega arith in
           ap (λ (n : ℕ). sized table s n k) one
-          ∙ ap (λ (j : ℕ). onward table s k 0 0 ++ sized table s ((most + 1) - (k + 1)) j) next
+          ∙ ap (λ (j : ℕ). onward table s k nobody ++ sized table s ((most + 1) - (k + 1)) j) next
 
-      both : walkedBy table s units (sized table s ((most + 1) - k) k) ≡ walkedOf (s .allowance) units (andThen (tries (onward table s k 0 0)) (tries rest))
+      both : walkedBy table s units (sized table s ((most + 1) - k) k) ≡ walkedOf (s .allowance) units (andThen (tries (onward table s k nobody)) (tries rest))
       both =
           ap (walkedBy table s units) unrolled
-          ∙ ap (walkedOf (s .allowance) units) (weighed-append table (s .task) (s .crews) (s .size) (onward table s k 0 0) rest)
+          ∙ ap (walkedOf (s .allowance) units) (weighed-append table (s .task) (s .crews) (s .size) (onward table s k nobody) rest)
 
       pub size-none : c .course ≡ Open
           → (walkedBy table s units (sized table s ((most + 1) - k) k) ≡ walkedBy table s (c .units) rest) × (c .units ≤ s .allowance)
       size-none o =
-          let w = turn-open (s .allowance) units (tries (onward table s k 0 0)) (tries rest) c h o in
+          let w = turn-open (s .allowance) units (tries (onward table s k nobody)) (tries rest) c h o in
           (both ∙ w .0, w .1)
 
-      pub size-blocks : c .course ≡ Blocked → c ≡ walkedBy table s units (sized table s ((most + 1) - k) k)
-      size-blocks o = turn-blocked (s .allowance) units (tries (onward table s k 0 0)) (tries rest) c h o ∙ sym both
-
-      pub size-spent : c .course ≡ Undecided → c ≡ walkedBy table s units (sized table s ((most + 1) - k) k)
-      size-spent o = turn-undecided (s .allowance) units (tries (onward table s k 0 0)) (tries rest) c h o ∙ sym both
+      pub size-stops : c .course ≢ Open → c ≡ walkedBy table s units (sized table s ((most + 1) - k) k)
+      size-stops o = turn-stopped (s .allowance) units (tries (onward table s k nobody)) (tries rest) c h o ∙ sym both

@@ -1,7 +1,7 @@
 -- The allowance along a list of absences: what a first part comes to, and then the rest at the units that it took. Assumes nothing.
-use mathlib.Core.Path.{_≡_, refl, sym, ap, _∙_}
-use mathlib.Core.Logic.{_⊎_, inl, inr, ⊎-elim}
-use mathlib.Core.Bool.{Bool, true, false}
+use mathlib.Core.Path.{_≡_, sym, ap, _∙_}
+use mathlib.Core.Logic.{⊎-elim, _≢_}
+use mathlib.Core.Bool.{true, false}
 use Prim.Native.Nat.{ℕ, _+_, _≤_, _<_}
 use native.Mathlib.Nat.{add-assoc, add-zero}
 use native.Mathlib.Omega.{arith}
@@ -76,9 +76,6 @@ open-blocked x p q = let z : _≡_ {A = ℕ} 0 1 = cc in omega arith
 pub open-undecided : (x : Course) → x ≡ Open → x ≡ Undecided → ⊥
 open-undecided x p q = let z : _≡_ {A = ℕ} 0 1 = cc in omega arith
 
-blocked-undecided : (x : Course) → x ≡ Blocked → x ≡ Undecided → ⊥
-blocked-undecided x p q = let z : _≡_ {A = ℕ} 0 1 = cc in omega arith
-
 then-open : (w v : Found) → w .blocked ≡ false → andThen w v ≡ dearer (w .need) v
 then-open w v e = rw e
 
@@ -105,22 +102,13 @@ module _ (most spent : ℕ) (w v : Found) (r : Walked) (e : r ≡ walkedOf most 
       go (is-blocked b c l) = absurd (open-blocked _ o c)
       go (is-over l c) = absurd (open-undecided _ o c)
 
-  -- one blocks: it is the first
-  pub turn-blocked : r .course ≡ Blocked → r ≡ walkedOf most spent (andThen w v)
-  turn-blocked o = go (judge most spent w r e)
+  -- one blocks, and is the first; or the allowance is spent
+  pub turn-stopped : r .course ≢ Open → r ≡ walkedOf most spent (andThen w v)
+  turn-stopped o = go (judge most spent w r e)
     where
       go : Judged most spent w r → r ≡ walkedOf most spent (andThen w v)
-      go (is-open b c u l) = absurd (open-blocked _ c o)
+      go (is-open b c u l) = absurd (o c)
       go (is-blocked b c l) = e ∙ ap (walkedOf most spent) (sym (then-blocked w v b))
-      go (is-over l c) = absurd (blocked-undecided _ o c)
-
-  -- the allowance is spent
-  pub turn-undecided : r .course ≡ Undecided → r ≡ walkedOf most spent (andThen w v)
-  turn-undecided o = go (judge most spent w r e)
-    where
-      go : Judged most spent w r → r ≡ walkedOf most spent (andThen w v)
-      go (is-open b c u l) = absurd (open-undecided _ c o)
-      go (is-blocked b c l) = absurd (blocked-undecided _ c o)
       go (is-over l c) =
           let n = then-need w v in
           e ∙ walked-over most spent w l ∙ sym (walked-over most spent (andThen w v) (omega arith))

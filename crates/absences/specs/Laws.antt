@@ -1,4 +1,5 @@
 pub mod Listed
+pub mod Only
 pub mod Weighed
 pub mod Decided
 pub mod Demands

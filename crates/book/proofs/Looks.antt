@@ -7,33 +7,10 @@ use Prim.Native.Nat.{ℕ, zero, suc, _+_, _-_, _*_, _≤_, _<_}
 use native.Mathlib.Nat.{mul-suc, add-assoc}
 use native.Mathlib.Omega.{arith}
 use lib.Dec.{leb, ltb}
-use lib.ListN.{length, getD}
+use lib.ListN.{length}
 use borrow.Author.Tests.{ltb-false, lt-ltb, le-ltb}
 use Rattle.roster.specs.Refusals.{madeOf}
-use Rattle.book.specs.Reading.{
-  Found,
-  number,
-  fieldsAt,
-  entryAt,
-  prior,
-  notAbove,
-  staffOf,
-  Kind,
-  faultIf,
-  wholeThen,
-  width,
-  countLook,
-  entryLook,
-  inTurn,
-  countAt,
-  sectionLooks,
-  past,
-  endLook,
-  firstFault,
-  codes,
-  rows,
-  policies,
-}
+use Rattle.book.specs.Reading.{Found, number, fieldsAt, entryAt, prior, notAbove, staffOf, faultIf, wholeThen, countLook, entryLook, inTurn, countAt, sectionLooks, past, endLook, firstFault, rows, policies}
 use Rattle.book.specs.Laws.First.{not-faulty, first-append}
 use Rattle.book.specs.Steps.{leadIn, staysIn, outIn, countIn, madeAt, lookIn, widthIn, stepFrom, pastEntry, startAt, looksIn, pastIn, stepIn}
 use Rattle.book.proofs.Numbers.{number-1}

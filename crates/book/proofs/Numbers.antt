@@ -1,16 +1,16 @@
 -- Laws of the numbers that stand in a book: past the end they are 0, a number of four bytes is two of two, and a shift tells whether a set
 -- has a bit past a place. Assumes nothing.
-use mathlib.Core.Path.{_≡_, refl, sym, ap, _∙_}
+use mathlib.Core.Path.{_≡_, refl}
 use mathlib.Core.Bool.{not}
 use mathlib.Core.List.{List}
-use Prim.Native.Nat.{ℕ, zero, suc, _+_, _-_, _*_, _/_, _%_, _^_, _≤_, _<_}
-use native.Mathlib.Nat.{add-assoc, lt-of-not-le, div-eq-of-lt, mod-lt}
+use Prim.Native.Nat.{ℕ, zero, suc, _+_, _-_, _*_, _/_, _^_, _≤_, _<_}
+use native.Mathlib.Nat.{add-assoc, lt-of-not-le, div-eq-of-lt}
 use native.Mathlib.Decide.{decLe}
 use native.Mathlib.Omega.{arith}
 use lib.Dec.{eqb, leb, ltb}
 use lib.ListN.{length, getD, List·getD-eq-default}
-use lib.Pow.{pow-pos, split}
 use borrow.Author.Tests.{le-leb, lt-leb, le-ltb, lt-ltb, eq-eqb, ne-eqb}
+use Rattle.sets.specs.Sets.{shifted-out}
 use Rattle.book.specs.Reading.{number}
 
 -- past the end there are zeros
@@ -50,10 +50,7 @@ pub shifted : (k m : ℕ) → not (eqb (m / 2 ^ k) 0) ≡ leb (2 ^ k) m
 shifted k m = go (decLe (2 ^ k) m)
   where
     some : 2 ^ k ≤ m → m / 2 ^ k ≡ 0 → ⊥
-    some l e =
-        let s : 0 * 2 ^ k + m % 2 ^ k ≡ m = ap (λ (x : ℕ). x * 2 ^ k + m % 2 ^ k) (sym e) ∙ split m k in
-        let r = mod-lt m (pow-pos k) in
-        omega arith
+    some l e = omega (arith, shifted-out k m e)
 
     go : Dec (2 ^ k ≤ m) → not (eqb (m / 2 ^ k) 0) ≡ leb (2 ^ k) m
     go (yes l) = simp (ne-eqb _ _ (some l), le-leb _ _ l)

@@ -2,18 +2,7 @@
 use Prim.Native.Nat.{ℕ}
 use Rattle.roster.specs.Refusals.{numberOf}
 use Rattle.book.specs.declared.Fault.{Fault}
-use Rattle.book.specs.declared.Fault.the-variants.{
-  Short,
-  Permissions,
-  Code,
-  Rows,
-  Staff,
-  Holdings,
-  Policies,
-  Task,
-  Policy,
-  Excess,
-}
+use Rattle.book.specs.declared.Fault.the-variants.{Short, Permissions, Code, Rows, Staff, Holdings, Policies, Task, Policy, Excess}
 
 -- "**11** the book ends before it is whole; then for counts **12** permissions not 1 to 32, **14** rows above 64, **17** policies above 32;
 -- for a code **13** not ascending; for a row **15** staff number not ascending, **16** a holding past the listed permissions; for a policy

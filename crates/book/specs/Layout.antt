@@ -2,7 +2,7 @@
 -- is the layout of admitted values. Nothing here is proved: these are definitions.
 use mathlib.Core.Path.{_≡_}
 use mathlib.Core.List.{List, [], _∷_, _++_}
-use Prim.Native.Nat.{ℕ, zero, suc, _+_, _/_, _%_, _^_, _≤_, _<_}
+use Prim.Native.Nat.{ℕ, zero, suc, _/_, _%_, _^_, _≤_, _<_}
 use lib.ListN.{length}
 use Rattle.roster.specs.Limits.{rowLimit}
 use Rattle.roster.specs.Refusals.{policyRuling}

@@ -1,29 +1,18 @@
 -- 01, "The roster book": what a book's parts are, for every byte string: the table, the policies, and staff number and holdings by row. A
 -- refused book has no parts: its sections are taken to start at its end, where no count stands. Nothing here is proved: these are definitions.
-use mathlib.Core.Path.{_≡_}
-use mathlib.Core.Bool.{Bool, true, false}
+use mathlib.Core.Bool.{true, false}
 use mathlib.Core.List.{List, [], _∷_}
 use Prim.Native.Nat.{ℕ, zero, suc, _+_, _*_}
 use lib.Dec.{leb, ltb}
-use lib.ListN.{length, getD}
+use lib.ListN.{length}
 use Rattle.roster.specs.Limits.{rowLimit}
 use Rattle.roster.specs.Refusals.{madeOf}
 use Rattle.roster.specs.declared.Made.{Made}
 use Rattle.roster.specs.declared.Made.the-variants as made
 use Rattle.roster.specs.declared.Policy.{Policy}
 use Rattle.roster.specs.declared.Table.{Table}
-use Rattle.book.specs.Layout.{Row, Contents}
-use Rattle.book.specs.Reading.{
-  Kind,
-  codes,
-  rows,
-  policies,
-  width,
-  entryAt,
-  countAt,
-  past,
-  readOf,
-}
+use Rattle.book.specs.Layout.{Contents}
+use Rattle.book.specs.Reading.{Kind, codes, rows, policies, width, entryAt, countAt, past, readOf}
 use Rattle.book.specs.declared.Reading.{Reading}
 use Rattle.book.specs.declared.Reading.the-variants.{Good, Refused}
 use Rattle.book.specs.declared.Starts.{Starts}

@@ -8,28 +8,9 @@ use lib.ListN.{length, getD, getElem?}
 use Rattle.roster.specs.Limits.{rowLimit}
 use Rattle.roster.specs.declared.Policy.{Policy}
 use Rattle.roster.specs.declared.Table.{Table}
-use Rattle.book.specs.Layout.{
-  Contents,
-  Row,
-  Each,
-  LayoutOf,
-  section,
-  codeWidths,
-  codeFields,
-  rowWidths,
-  rowFields,
-}
+use Rattle.book.specs.Layout.{Contents, Row, Each, LayoutOf, section, codeWidths, codeFields, rowWidths, rowFields}
 use Rattle.book.specs.Reading.{Found, looks}
-use Rattle.book.specs.Parts.{
-  startsIn,
-  staffAt,
-  holdingsAt,
-  heldOr0,
-  upFrom,
-  tableOf,
-  policyCount,
-  policyAt,
-}
+use Rattle.book.specs.Parts.{startsIn, staffAt, holdingsAt, heldOr0, upFrom, tableOf, policyCount, policyAt}
 use Rattle.book.specs.declared.Fault.{Fault}
 use Rattle.book.specs.declared.Look.the-variants.{Sound, Faulty}
 use Rattle.book.specs.declared.Reading.{Reading}

@@ -1,7 +1,6 @@
 -- 01, "The roster book", its last paragraph: the book is read from the front, and the first fault is refused with its number and its place.
 -- Every count and every entry is looked at, in the order of the bytes; what is looked at stands in a list, and the reply is its first fault.
 -- Nothing here is proved: these are definitions, and they run.
-use mathlib.Core.Path.{_≡_}
 use mathlib.Core.Bool.{Bool, true, false}
 use mathlib.Core.List.{List, [], _∷_, _++_}
 use mathlib.Core.Option.{Option, some, none}
@@ -13,17 +12,9 @@ use Rattle.roster.specs.Refusals.{outside, madeOf}
 use Rattle.roster.specs.declared.Made.{Made}
 use Rattle.roster.specs.declared.Made.the-variants as made
 use Rattle.roster.specs.declared.Policy.{Policy}
-use Rattle.book.specs.Layout.{
-  Row,
-  codeWidths,
-  rowWidths,
-  policyWidths,
-  permissionLimit,
-  policyLimit,
-}
+use Rattle.book.specs.Layout.{Row, codeWidths, rowWidths, policyWidths, permissionLimit, policyLimit}
 use Rattle.book.specs.declared.Fault.{Fault}
 use Rattle.book.specs.declared.Fault.the-variants as fault
-use Rattle.book.specs.declared.Section.{Section}
 use Rattle.book.specs.declared.Section.the-variants.{Permissions, Rows, Policies}
 use Rattle.book.specs.declared.Look.{Look}
 use Rattle.book.specs.declared.Look.the-variants.{Sound, Faulty}

@@ -1,31 +1,12 @@
 -- The reader's own steps, by the section's name: what its functions answer. Reading is what they come to. Nothing here is proved: these are
 -- definitions.
-use mathlib.Core.Bool.{Bool, true, false}
-use mathlib.Core.List.{List, [], _∷_, _++_}
+use mathlib.Core.Bool.{Bool}
+use mathlib.Core.List.{List}
 use Prim.Native.Nat.{ℕ, _+_, _*_}
 use lib.ListN.{getD}
 use Rattle.roster.specs.Refusals.{madeOf}
 use Rattle.roster.specs.declared.Made.{Made}
-use Rattle.book.specs.Reading.{
-  number,
-  Found,
-  notAbove,
-  prior,
-  codes,
-  rows,
-  policies,
-  width,
-  faultIf,
-  wholeThen,
-  countAt,
-  entryLook,
-  inTurn,
-  sectionLooks,
-  past,
-  looksFromPolicies,
-  looksFromRows,
-  firstFault,
-}
+use Rattle.book.specs.Reading.{number, Found, notAbove, prior, codes, rows, policies, width, faultIf, wholeThen, countAt, entryLook, inTurn, sectionLooks, past, looksFromPolicies, looksFromRows, firstFault}
 use Rattle.book.specs.declared.Section.{Section}
 use Rattle.book.specs.declared.Section.the-variants.{Permissions, Rows, Policies}
 use Rattle.book.specs.declared.Fault.{Fault}

@@ -6,11 +6,12 @@ use roster::Policy;
 use roster::Refusal;
 use roster::Table;
 ghost use mathlib.Core.Path.{_≡_};
-ghost use Prim.Native.Nat.{_+_, _<_, _≤_, _^_};
-ghost use lib.Dec.{ltb, leb};
+ghost use Prim.Native.Nat.{_+_, _<_, _^_};
+ghost use lib.Dec.{ltb};
 ghost use lib.ListN.{length, getD};
+ghost use Rattle.roster.specs.Limits.{rowLimit};
 ghost use Rattle.book.specs.Faults.{faultNumber};
-ghost use Rattle.book.specs.Reading.{number, pastListed, codes, rows, policies, countLook, entryLook, readOf};
+ghost use Rattle.book.specs.Reading.{number, pastListed, codes, rows, policies, entryLook, readOf};
 ghost use Rattle.book.specs.Parts.{startsIn, placeOf, staffAt, holdingsAt, heldOr0, upFrom, tableOf, policyCount, policyIn, policyAt};
 ghost use Rattle.book.specs.Steps.{widthIn, leadIn, staysIn, outIn, countFaultIn, countIn, madeAt, lookIn, pastEntry, stepFrom, startAt, stepIn, readPolicies, readRows};
 
@@ -150,7 +151,9 @@ fn two(book: &[u8], at: usize) -> u32
     if at >= book.len() {
         return 0;
     }
-    wide(byte(book, at)) + 256 * wide(byte(book, at + 1))
+    let low = wide(byte(book, at));
+    let high = wide(byte(book, at + 1));
+    low + 256 * high
 }
 
 // The little endian number of four bytes.
@@ -160,7 +163,9 @@ fn four(book: &[u8], at: usize) -> u32
     if at >= book.len() {
         return 0;
     }
-    two(book, at) + 65536 * two(book, at + 2)
+    let low = two(book, at);
+    let high = two(book, at + 2);
+    low + 65536 * high
 }
 
 // The count that stands at a place.
@@ -484,7 +489,7 @@ fn held_at(book: &[u8], start: usize, row: usize) -> u32
 
 // The holdings of all rows.
 fn all_held(book: &[u8], start: usize) -> [u32; Policy::ROWS]
-    ensures { λ r. ⌜ r ≡ upFrom 0 64 (λ row. heldOr0 (holdingsAt (now (book .entry)) start row)) ⌝ }
+    ensures { λ r. ⌜ r ≡ upFrom 0 rowLimit (λ row. heldOr0 (holdingsAt (now (book .entry)) start row)) ⌝ }
 {
     let mut held = [0u32; Policy::ROWS];
     let mut row = 0;
@@ -539,4 +544,43 @@ pub fn policy_at(book: &[u8], i: usize) -> Listed
 {
     let starts = starts_in(book);
     policy_in(book, starts.policies, i)
+}
+
+// ---- the view
+
+// A lent book with its section starts, for whoever asks by row again and again.
+pub struct Book<'a> {
+    pub bytes: &'a [u8],
+    pub starts: Starts,
+}
+
+// Reads the book once.
+pub fn view<'a>(bytes: &'a [u8]) -> Book<'a>
+    ensures { λ r. ⌜ (r .bytes ≡ bytes .entry) × (r .starts ≡ startsIn (now (bytes .entry))) × (now (bytes .exit) ≡ now (bytes .entry)) ⌝ }
+{
+    Book {
+        bytes,
+        starts: starts_in(bytes),
+    }
+}
+
+// The staff number of a row.
+pub fn staff_of<'a>(book: Book<'a>, row: usize) -> Staff
+    ensures { λ s. ⌜ (s ≡ staffAt (now (book .entry .bytes)) (book .entry .starts .rows) row) × (book .exit .bytes ≡ book .entry .bytes) ⌝ }
+{
+    staff_at(book.bytes, book.starts.rows, row)
+}
+
+// The holdings of a row.
+pub fn holdings_of<'a>(book: Book<'a>, row: usize) -> Holdings
+    ensures { λ h. ⌜ (h ≡ holdingsAt (now (book .entry .bytes)) (book .entry .starts .rows) row) × (book .exit .bytes ≡ book .entry .bytes) ⌝ }
+{
+    holdings_at(book.bytes, book.starts.rows, row)
+}
+
+// The staff number of a row of these bytes, for a caller that keeps no view.
+pub fn staff_by_row(bytes: &[u8], row: usize) -> Staff
+    ensures { λ s. ⌜ (s ≡ staffAt (now (bytes .entry)) (startsIn (now (bytes .entry)) .rows) row) × (now (bytes .exit) ≡ now (bytes .entry)) ⌝ }
+{
+    staff_of(view(bytes), row)
 }

@@ -42,109 +42,127 @@ module _ (task : ℕ) (f : Filling) (row holds : ℕ) where
   pub placed-falls : Has (f .free) row → suc (ones (placed .free)) ≡ ones (f .free)
   placed-falls h = ap (λ (x : ℕ). suc (ones x)) (placed-state .0) ∙ ones-drop (f .free) row h
 
-  pub placed-ready : (crews spent units allowance : ℕ) → Ready crews f spent allowance → f .closed ≢ crews → units < allowance
+  pub placed-ready : {crews spent units allowance : ℕ} → Ready crews f spent allowance → f .closed ≢ crews → units < allowance
       → Ready crews placed (units + 1) allowance
-  placed-ready crews spent units allowance r n l =
+  placed-ready r n l =
       record { few = r .few; closed = omega (arith, r .closed, placed-state .1); within = omega arith }
 
 -- ---- the turns
 
-module _ (holds holders : List ℕ) (task crews size : ℕ) (f : Filling) (spent allowance : ℕ) where
-  abbrev rule : Work
-  rule = plainly (at holds) (at holders) task crews size
+-- what `fill_on` is called with
+pub record Asked : Type 0 where
+  pub holds : List ℕ
+  pub holders : List ℕ
+  pub task : ℕ
+  pub crews : ℕ
+  pub size : ℕ
+  pub state : Filling
+  pub spent : ℕ
+  pub allowance : ℕ
 
-  -- what `fill_on` answers
-  abbrev answer : Filled
-  answer = filledOf allowance spent (search (ones (f .free)) rule f)
+abbrev pub rule : Asked → Work
+rule a = plainly (at (a .holds)) (at (a .holders)) (a .task) (a .crews) (a .size)
 
-  -- the search one placement deeper
-  abbrev deeper : Filling → Outcome
-  deeper g = search (ones (f .free) - 1) rule g
+-- what it answers
+abbrev pub answer : Asked → Filled
+answer a = filledOf (a .allowance) (a .spent) (search (ones (a .state .free)) (rule a) (a .state))
 
-  abbrev trying : List ℕ → Outcome
-  trying rows = tryEach deeper rule f rows
+-- the free rows that hold the lowest permission missing
+abbrev pub all : Asked → ℕ
+all a = bitAnd (at (a .holders) (trailingZeros 32 (missingOf (a .task) (a .state)))) (a .state .free)
 
-  pub record Going (rest units : ℕ) : Type 0 where
-    pub wide : rest < 2 ^ 64
-    pub own : Sub rest (f .free)
-    pub within : units ≤ allowance
-    pub same : answer ≡ filledOf allowance units (trying (members 0 64 rest))
+-- the search one placement deeper, and each of the rows tried by it
+abbrev deeper : Asked → Filling → Outcome
+deeper a g = search (ones (a .state .free) - 1) (rule a) g
 
-  pub begun : (rest : ℕ) → rest ≡ bitAnd (at holders (trailingZeros 32 (missingOf task f))) (f .free) → rest < 2 ^ 64 → spent ≤ allowance
-      → f .closed ≢ crews → ones (crewOf f) < size → Going rest spent
-  begun rest e w l n h =
-      record {
-        wide = w;
-        own = λ i. omega (arith, ap (λ (x : ℕ). bit x i) e, bit-and (at holders (trailingZeros 32 (missingOf task f))) (f .free) i);
-        within = l;
-        same =
-            ap (filledOf allowance spent)
-            (step.search-tries (at holds) (at holders) task crews size f n h ∙ ap (λ (x : ℕ). trying (members 0 64 x)) (sym e));
-      }
+abbrev trying : Asked → List ℕ → Outcome
+trying a rows = tryEach (deeper a) (rule a) (a .state) rows
 
-  module _ (rest units : ℕ) (g : Going rest units) where
-    pub ended : rest ≡ 0 → record { ending = Exhausted; crews = noCrews; units = units } ≡ answer
-    ended z =
-        step.says-exhausted allowance units (trying (members 0 64 rest))
-        (ap trying (ap (members 0 64) z ∙ members-empty 64) ∙ step.try-none deeper rule f) (g .within)
-        ∙ sym (g .same)
+pub record Going (a : Asked) (rest units : ℕ) : Type 0 where
+  pub wide : rest < 2 ^ 64
+  pub own : Sub rest (a .state .free)
+  pub within : units ≤ a .allowance
+  pub same : answer a ≡ filledOf (a .allowance) units (trying a (members 0 64 rest))
 
-    module _ (row : ℕ) (er : row ≡ trailingZeros 64 rest) (some : rest ≢ 0) where
-      least : Least 64 rest row
-      least = rw er (trailing-least 64 rest (g .wide) (omega arith))
+pub begun : (a : Asked) {rest : ℕ} → rest ≡ all a → rest < 2 ^ 64 → a .spent ≤ a .allowance → a .state .closed ≢ a .crews
+    → ones (crewOf (a .state)) < rule a .size → Going a rest (a .spent)
+begun a e w l n h =
+    record {
+      wide = w;
+      own = λ i. omega (arith, ap (λ (x : ℕ). bit x i) e, bit-and (at (a .holders) (trailingZeros 32 (missingOf (a .task) (a .state)))) (a .state .free) i);
+      within = l;
+      same =
+          ap (filledOf (a .allowance) (a .spent))
+          (step.search-tries (at (a .holds)) (at (a .holders)) (a .task) (a .crews) (a .size) (a .state) n h
+          ∙ ap (λ (x : ℕ). trying a (members 0 64 x)) (sym e));
+    }
 
-      pub row-below : row < 64
-      row-below = least .below
+module _ {a : Asked} {rest units : ℕ} (g : Going a rest units) where
+  pub ended : rest ≡ 0 → record { ending = Exhausted; crews = noCrews; units = units } ≡ answer a
+  ended z =
+      step.says-exhausted (a .allowance) units (trying a (members 0 64 rest))
+      (ap (trying a) (ap (members 0 64) z ∙ members-empty 64) ∙ step.try-none (deeper a) (rule a) (a .state)) (g .within)
+      ∙ sym (g .same)
 
-      pub row-free : Has (f .free) row
-      row-free = omega (arith, g .own row, least .has, bit-le (f .free) row)
+  -- a candidate's turn
+  module _ {row : ℕ} (er : row ≡ trailingZeros 64 rest) (some : rest ≢ 0) where
+    least : Least 64 rest row
+    least = rw er (trailing-least 64 rest (g .wide) (omega arith))
 
-      -- what the code takes out of the set
-      abbrev bitOf : ℕ
-      bitOf = (1 * 2 ^ row) % 2 ^ 64
+    pub row-below : row < 64
+    row-below = least .below
 
-      shifted : bitOf ≡ 2 ^ row
-      shifted = shl-one 64 row row-below
+    pub row-free : Has (a .state .free) row
+    row-free = omega (arith, g .own row, least .has, bit-le (a .state .free) row)
 
-      -- one candidate fewer
-      pub rest-falls : ones (bitXor rest bitOf) < ones rest
-      rest-falls = rw shifted (omega (arith, ones-drop rest row (least .has)))
+    -- what the code takes out of the set
+    abbrev bitOf : ℕ
+    bitOf = (1 * 2 ^ row) % 2 ^ 64
 
-      abbrev others : List ℕ
-      others = members 0 64 (bitXor rest (2 ^ row))
+    shifted : bitOf ≡ 2 ^ row
+    shifted = shl-one 64 row row-below
 
-      first : answer ≡ filledOf allowance units (trying (row ∷ others))
-      first =
-          g .same
-          ∙ ap (λ (l : List ℕ). filledOf allowance units (trying l))
-          (members-least 64 rest (g .wide) some ∙ ap (λ (x : ℕ). x ∷ members 0 64 (bitXor rest (2 ^ x))) (sym er))
+    -- one candidate fewer
+    pub rest-falls : ones (bitXor rest bitOf) < ones rest
+    rest-falls = rw shifted (omega (arith, ones-drop rest row (least .has)))
 
-      pub spent-out : allowance ≤ units → record { ending = Undecided; crews = noCrews; units = allowance } ≡ answer
-      spent-out l = step.turn-spent deeper rule f row others allowance units (g .within) l ∙ sym first
+    abbrev others : List ℕ
+    others = members 0 64 (bitXor rest (2 ^ row))
 
-      -- r is what the call says of the state after the placement
-      module _ (h : ℕ) (eh : h ≡ at holds row) (q : Filling) (eq : q ≡ placed task f row h) (r : Filled)
-          (e : r ≡ filledOf allowance (units + 1) (search (ones (q .free)) rule q)) where
-        said : r ≡ filledOf allowance (units + 1) (deeper (placedOf rule f row))
-        said =
-            let here : q ≡ placed task f row (at holds row) = eq ∙ ap (placed task f row) eh in
-            let n : ones (placed task f row (at holds row) .free) ≡ ones (f .free) - 1 =
-            omega (arith, placed-falls task f row (at holds row) row-free) in
-            e
-            ∙ ap (λ (x : Filling). filledOf allowance (units + 1) (search (ones (x .free)) rule x)) here
-            ∙ ap (filledOf allowance (units + 1))
-            (ap₂ (λ (k : ℕ) (x : Filling). search k rule x) n (sym (step.placed-plainly (at holds) (at holders) task crews size f row)))
+    first : answer a ≡ filledOf (a .allowance) units (trying a (row ∷ others))
+    first =
+        g .same
+        ∙ ap (λ (l : List ℕ). filledOf (a .allowance) units (trying a l))
+        (members-least 64 rest (g .wide) some ∙ ap (λ (x : ℕ). x ∷ members 0 64 (bitXor rest (2 ^ x))) (sym er))
 
-        pub ended-here : r .ending ≢ Exhausted → r ≡ answer
-        ended-here v = step.turn-ended deeper rule f row others allowance units r said v ∙ sym first
+    pub spent-out : a .allowance ≤ units → record { ending = Undecided; crews = noCrews; units = a .allowance } ≡ answer a
+    spent-out l = step.turn-spent (deeper a) (rule a) (a .state) row others (a .allowance) units (g .within) l ∙ sym first
 
-        pub exhausted-here : r .ending ≡ Exhausted → Going (bitXor rest bitOf) (r .units)
-        exhausted-here v =
-            let t = step.turn-exhausted deeper rule f row others allowance units r said v in
-            rw shifted
-            (record {
-              wide = drop-lt 64 rest row (g .wide) (least .has);
-              own = λ i. omega (arith, drop-sub rest row (least .has) i, g .own i);
-              within = t .1;
-              same = first ∙ t .0;
-            })
+    -- the state after the placement
+    abbrev next : Filling
+    next = placed (a .task) (a .state) row (at (a .holds) row)
+
+    -- q is what the code has of it, and r what the call says of that
+    module _ {q : Filling} {r : Filled} (eq : q ≡ next) (e : r ≡ filledOf (a .allowance) (units + 1) (search (ones (q .free)) (rule a) q)) where
+      said : r ≡ filledOf (a .allowance) (units + 1) (deeper a (placedOf (rule a) (a .state) row))
+      said =
+          let n : ones (next .free) ≡ ones (a .state .free) - 1 = omega (arith, placed-falls (a .task) (a .state) row (at (a .holds) row) row-free) in
+          e
+          ∙ ap (λ (x : Filling). filledOf (a .allowance) (units + 1) (search (ones (x .free)) (rule a) x)) eq
+          ∙ ap (filledOf (a .allowance) (units + 1))
+          (ap₂ (λ (k : ℕ) (x : Filling). search k (rule a) x) n
+          (sym (step.placed-plainly (at (a .holds)) (at (a .holders)) (a .task) (a .crews) (a .size) (a .state) row)))
+
+      pub ended-here : r .ending ≢ Exhausted → r ≡ answer a
+      ended-here v = step.turn-ended (deeper a) (rule a) (a .state) row others (a .allowance) units r said v ∙ sym first
+
+      pub exhausted-here : r .ending ≡ Exhausted → Going a (bitXor rest bitOf) (r .units)
+      exhausted-here v =
+          let t = step.turn-exhausted (deeper a) (rule a) (a .state) row others (a .allowance) units r said v in
+          rw shifted
+          (record {
+            wide = drop-lt 64 rest row (g .wide) (least .has);
+            own = λ i. omega (arith, drop-sub rest row (least .has) i, g .own i);
+            within = t .1;
+            same = first ∙ t .0;
+          })

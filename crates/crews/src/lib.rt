@@ -7,7 +7,7 @@ use roster::Ruling;
 use roster::Table;
 use roster::Verdict;
 ghost use mathlib.Core.Path.{_≡_};
-ghost use Prim.Native.Nat.{_-_, _≤_, _<_, _^_};
+ghost use Prim.Native.Nat.{_<_};
 ghost use lib.Bits.{bitAnd, bitXor};
 ghost use lib.Count.{ones, trailingZeros};
 ghost use Rattle.roster.specs.Limits.{rowLimit, crewLimit};
@@ -44,8 +44,9 @@ impl Filling {
     fn begin(free: u64) -> Filling
         ensures { λ r. ⌜ r ≡ begin free ⌝ }
     {
+        let crews = [0; Policy::CREWS];
         Filling {
-            crews: [0; Policy::CREWS],
+            crews: crews,
             closed: 0,
             free: free,
             held: 0,
@@ -257,17 +258,6 @@ pub fn holders_of(holds: &[u32; Policy::ROWS]) -> [u64; 32]
     holders
 }
 
-// The set of all rows. A shift by 64 is no operation.
-fn everyone(rows: usize) -> u64
-    requires { ⌜ rows ≤ rowLimit ⌝ }
-    ensures { λ r. ⌜ r ≡ 2 ^ rows - 1 ⌝ }
-{
-    if rows == Policy::ROWS {
-        return !0u64;
-    }
-    (1u64 << rows) - 1
-}
-
 // The reply that a filling comes to.
 fn reply_of(filled: Filled) -> Reply
     ensures { λ r. ⌜ r ≡ repliedOf filled ⌝ }
@@ -315,7 +305,7 @@ pub fn ask_named(
                 task,
                 crews,
                 size,
-                everyone(rows) & !absent,
+                sets::below(rows) & !absent,
                 0,
                 allowance,
             ))

@@ -1,9 +1,8 @@
-// A mask is a set: bit i of the mask says whether i is a member. What these functions give is told in specs/Mask.antt and specs/Members.antt,
-// and the laws of it in specs/Laws/.
+// A mask is a set: bit i of the mask says whether i is a member. What sets are stands in specs/Mask.antt and specs/Members.antt, the laws of
+// them in specs/Laws/; here are the few functions that the crates above call.
 ghost use mathlib.Core.Path.{_≡_};
+ghost use Prim.Native.Nat.{_-_, _^_, min};
 ghost use lib.Count.{ones, trailingZeros};
-ghost use Rattle.sets.specs.Mask.{subb, apartb};
-ghost use Rattle.sets.specs.Members.{hasb};
 
 // How many members the set has.
 pub fn size(set: u64) -> u32
@@ -26,23 +25,12 @@ pub fn lowest(set: u32) -> u32
     u32::trailing_zeros(set)
 }
 
-// Whether every member of a is one of b: `Sub a b`, by subb-true and sub-subb.
-pub fn subset(a: u32, b: u32) -> bool
-    ensures { λ r. ⌜ r ≡ subb a b ⌝ }
+// The set of all numbers below n, as far as the width goes. A shift by the width would be an error.
+pub fn below(n: usize) -> u64
+    ensures { λ r. ⌜ r ≡ 2 ^ min n 64 - 1 ⌝ }
 {
-    a & b == a
-}
-
-// Whether no number is a member of both: `Apart a b`, by apartb-true and apart-apartb.
-pub fn disjoint(a: u64, b: u64) -> bool
-    ensures { λ r. ⌜ r ≡ apartb a b ⌝ }
-{
-    a & b == 0
-}
-
-// Whether i is a member: no number past the width is, and a shift by it would be an error.
-pub fn has(set: u64, i: u32) -> bool
-    ensures { λ r. ⌜ r ≡ hasb set i ⌝ }
-{
-    if i < 64 { (set >> i) & 1 == 1 } else { false }
+    if n >= 64 {
+        return !0u64;
+    }
+    (1u64 << n) - 1
 }

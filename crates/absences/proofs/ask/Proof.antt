@@ -5,6 +5,7 @@ use mathlib.Core.List.{List}
 use Prim.Native.Nat.{ℕ}
 use native.Mathlib.Omega.{arith}
 use borrow.Author.Needs.{needs}
+use Rattle.sets.specs.Sets.{below-within}
 use Rattle.roster.specs.declared.Ruling.the-variants.{Admitted}
 use Rattle.roster.specs.Refusals.{policyRuling}
 use Rattle.roster.specs.Laws.Rulings as rulings
@@ -49,8 +50,8 @@ ranked-requires c κs =
     let a = k .before .before .before .args in
     (limits k .rows, (a .table, a .task, within-of (a .table) (a .task) (limits k .rows) _ (c .before .before .before .holdings-within .ensures)))
 
-everyone-requires : tie.Need-everyone-requires
-everyone-requires c κs = limits (c .before .before .before .before .before) .rows
+below-requires : tie.Need-below-requires
+below-requires c κs = search needs
 
 smaller-requires : tie.Need-smaller-requires
 smaller-requires c κs = search needs
@@ -64,7 +65,7 @@ searching c = record {
   crews = c .before .before .before .before .before .before .before .before .before .before .before .before .before .args .crews;
   size = c .before .before .before .before .before .before .before .before .before .before .before .before .before .args .size;
   rows = c .before .before .before .before .before .before .before .before .before .before .before .before .before .args .table .rows;
-  everyone = c .before .before .before .before .everyone .result;
+  everyone = c .before .before .before .before .below .result;
   allowance = c .before .before .before .before .before .before .before .before .before .before .before .before .before .args .allowance;
 }
 
@@ -72,7 +73,8 @@ lends : (c : tie.After-smaller) → Lent (c .before .before .before .before .bef
 lends c = record {
   rows = refl;
   small = limits (c .before .before .before .before .before .before .before .before .before .before) .rows;
-  everyone = c .before .before .before .before .everyone .ensures;
+  everyone = c .before .before .before .before .below .ensures
+      ∙ below-within 64 _ (limits (c .before .before .before .before .before .before .before .before .before .before) .rows);
   few = limits (c .before .before .before .before .before .before .before .before .before .before) .few;
   wide = c .before .before .before .before .before .before .before .before .before .before .before .before .before .fits .task .fits;
   held = c .before .before .before .before .before .before .before .before .before .holdings-within .ensures;
@@ -119,7 +121,7 @@ ask-spec =
     holdings-within-requires
     holders-of-requires
     ranked-requires
-    everyone-requires
+    below-requires
     smaller-requires
     search-all-requires
     returns

@@ -1,25 +1,26 @@
 -- The loop's invariant, for every table that what is lent is of: what is to be answered is what the sizes from `size` on come to at `units`.
 -- Assumes nothing.
 use mathlib.Core.Path.{_≡_, sym, ap, _∙_}
+use mathlib.Core.Logic.{⊎-elim}
 use Prim.Native.Nat.{ℕ, _+_, _-_, _≤_}
 use native.Mathlib.Omega.{arith}
 use borrow.Author.Needs.{needs}
 use denote.Ref.{now}
 use Rattle.roster.specs.declared.Table.{Table}
-use Rattle.absences.specs.Walk.{Lent, Ranked, walkedBy, onward, sized}
+use Rattle.absences.specs.Walk.{Lent, Ranked, nobody, walkedBy, onward, sized}
 use Rattle.absences.proofs.Over.{over-none}
-use Rattle.absences.proofs.Sizes.{sizes-end, size-none, size-blocks, size-spent}
+use Rattle.absences.proofs.Sizes.{sizes-end, size-none, size-stops}
 use Rattle.absences.proofs.by_size.Statement.{statement}
 use Rattle.absences.proofs.by_size.Tie as tie
 
 abbrev Inv-loop : tie.InvT-loop
-Inv-loop search holds holders order most spent size₀ units₀ size units =
+Inv-loop search holds holders order most spent nobody size₀ units₀ size units =
     (size ≤ most + 1) × (units ≤ search .allowance)
     × ((table : Table) → Lent table search holds holders → Ranked table search order
     → walkedBy table search spent (sized table search most 1) ≡ walkedBy table search units (sized table search ((most + 1) - size) size))
 
 abbrev μ-loop : tie.MeasureT-loop
-μ-loop search holds holders order most spent size₀ units₀ size units = (most + 1) - size
+μ-loop search holds holders order most spent nobody size₀ units₀ size units = (most + 1) - size
 
 loop-holds : tie.Need-loop-holds Inv-loop μ-loop
 loop-holds c =
@@ -36,32 +37,19 @@ walked : (k : tie.After-walk Inv-loop μ-loop) (table : Table)
     → Lent table (k .before .before .before .args .search) (now (k .before .before .before .args .holds)) (now (k .before .before .before .args .holders))
     → Ranked table (k .before .before .before .args .search) (now (k .before .before .before .args .order))
     → k .walk .result
-    ≡ walkedBy table (k .before .before .before .args .search) (k .before .before .loop .units) (onward table (k .before .before .before .args .search) (k .before .before .loop .size) 0 0)
+    ≡ walkedBy table (k .before .before .before .args .search) (k .before .before .loop .units) (onward table (k .before .before .before .args .search) (k .before .before .loop .size) nobody)
 walked k table lent ranked = k .walk .ensures table lent ranked (over-none table (k .before .before .before .args .search .task))
 
 enum-told : tie.Need-enum-told Inv-loop μ-loop
 enum-told c = search needs
 
-enum-told-2 : tie.Need-enum-told-2 Inv-loop μ-loop
-enum-told-2 c = search needs
-
 returns : tie.Need-returns Inv-loop μ-loop
 returns c table lent ranked =
-    let k = c .before .before in
+    let k = c .before in
     let a = k .before .before .before .args in
     let l = k .before .before .loop in
-    size-blocks table (a .search) (a .most) (l .size) (l .units) (k .before .loop-test .taken) (k .walk .result) (walked k table lent ranked) (c .enum-told2 .given .1)
-    ∙ sym (l .inv .2 table lent ranked)
-
-enum-told-3 : tie.Need-enum-told-3 Inv-loop μ-loop
-enum-told-3 c = search needs
-
-returns-2 : tie.Need-returns-2 Inv-loop μ-loop
-returns-2 c table lent ranked =
-    let k = c .before .before in
-    let a = k .before .before .before .args in
-    let l = k .before .before .loop in
-    size-spent table (a .search) (a .most) (l .size) (l .units) (k .before .loop-test .taken) (k .walk .result) (walked k table lent ranked) (c .enum-told3 .given .1)
+    size-stops table (a .search) (a .most) (l .size) (l .units) (k .before .loop-test .taken) (k .walk .result) (walked k table lent ranked)
+    (λ e. ⊎-elim (λ z. omega arith) (λ z. omega arith) (rw e at (c .match .keys2)))
     ∙ sym (l .inv .2 table lent ranked)
 
 add-size : tie.Need-add-size Inv-loop μ-loop
@@ -85,8 +73,8 @@ loop-again c =
     size-none table (a .search) (a .most) (l .size) (l .units) lt (k .walk .result) (walked k table lent ranked) (c .enum-told .given .1) in
     (omega (arith, lt), none (p .0) (p .1) (p .2) .1, λ table lent ranked. l .inv .2 table lent ranked ∙ none table lent ranked .0)
 
-returns-3 : tie.Need-returns-3 Inv-loop μ-loop
-returns-3 c table lent ranked =
+returns-2 : tie.Need-returns-2 Inv-loop μ-loop
+returns-2 c table lent ranked =
     let a = c .before .before .args in
     let l = c .before .loop in
     sizes-end table (a .search) (a .most) (l .size) (l .units) (c .loop-test .left) (l .inv .1) ∙ sym (l .inv .2 table lent ranked)
@@ -100,11 +88,8 @@ by-size-spec =
     loop-holds
     walk-requires
     enum-told
-    enum-told-2
     returns
-    enum-told-3
-    returns-2
     add-size
     loop-less
     loop-again
-    returns-3)
+    returns-2)

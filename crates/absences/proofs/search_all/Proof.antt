@@ -1,6 +1,6 @@
 -- Nobody absent first, at one unit; if that does not block, the sizes from 1 on at what it took. Assumes nothing.
-use mathlib.Core.Path.{_≡_, refl, sym, ap, _∙_}
-use Prim.Native.Nat.{ℕ}
+use mathlib.Core.Path.{_≡_, ap, _∙_}
+use mathlib.Core.Logic.{⊎-elim}
 use native.Mathlib.Omega.{arith}
 use borrow.Author.Needs.{needs}
 use denote.Ref.{now}
@@ -9,7 +9,7 @@ use Rattle.crews.specs.Filling.{filling}
 use Rattle.crews.specs.Filled.{filledOf}
 use Rattle.absences.specs.Walk.{Lent}
 use Rattle.absences.proofs.Absent.{fills, nobody}
-use Rattle.absences.proofs.Replied.{within-first, all-open, all-blocked, all-undecided}
+use Rattle.absences.proofs.Replied.{within-first, all-open, all-stopped}
 use Rattle.absences.proofs.search_all.Statement.{statement}
 use Rattle.absences.proofs.search_all.Tie as tie
 
@@ -22,6 +22,9 @@ walked-by-requires c κs = search needs
 enum-told : tie.Need-enum-told
 enum-told c = search needs
 
+reply-of-requires : tie.Need-reply-of-requires
+reply-of-requires c κs = search needs
+
 -- what `fill` says of nobody absent
 filled : (k : tie.After-walked-by) (table : Table) → Lent table (k .before .before .before .args .search) (now (k .before .before .before .args .holds)) (now (k .before .before .before .args .holders))
     → k .before .before .fill .result
@@ -32,6 +35,14 @@ filled k table lent =
     ∙ ap (filledOf (a .search .allowance) 1)
     (fills table (a .search) (now (a .holds)) (now (a .holders)) lent (a .search .everyone) 0 (nobody table (a .search) (now (a .holds)) (now (a .holders)) lent))
 
+returns : tie.Need-returns
+returns c table lent ranked =
+    let k = c .before .before in
+    let a = k .before .before .before .args in
+    c .reply-of .ensures
+    ∙ all-stopped table (a .search) (a .most) _ (filled k table lent) (k .walked-by .result) (k .walked-by .ensures)
+    (λ e. ⊎-elim (λ z. omega arith) (λ z. omega arith) (rw e at (c .before .match .keys2)))
+
 by-size-requires : tie.Need-by-size-requires
 by-size-requires c κs =
     let k = c .before .before in
@@ -39,43 +50,17 @@ by-size-requires c κs =
     let a = k .before .before .before .args in
     (p, k .before .before .before .pre .1, within-first (p .0) (a .search) (a .most) _ (filled k (p .0) (p .1)) (k .walked-by .result) (k .walked-by .ensures) (c .enum-told .given .1))
 
-reply-of-requires : tie.Need-reply-of-requires
-reply-of-requires c κs = search needs
-
-enum-told-2 : tie.Need-enum-told-2
-enum-told-2 c = search needs
-
 reply-of-requires-2 : tie.Need-reply-of-requires-2
 reply-of-requires-2 c κs = search needs
 
-enum-told-3 : tie.Need-enum-told-3
-enum-told-3 c = search needs
-
-reply-of-requires-3 : tie.Need-reply-of-requires-3
-reply-of-requires-3 c κs = search needs
-
-returns : tie.Need-returns
-returns c table lent ranked =
+returns-2 : tie.Need-returns-2
+returns-2 c table lent ranked =
     let w = c .before in
     let k = w .before .before .before in
     let a = k .before .before .before .args in
-    c .reply-of .ensures
+    c .reply-of2 .ensures
     ∙ all-open table (a .search) (a .most) _ (filled k table lent) (k .walked-by .result) (k .walked-by .ensures) (w .by-size .result) (w .before .enum-told .given .1)
     (w .by-size .ensures table lent ranked)
-
-returns-2 : tie.Need-returns-2
-returns-2 c table lent ranked =
-    let k = c .before .before .before in
-    let a = k .before .before .before .args in
-    c .reply-of2 .ensures
-    ∙ all-blocked table (a .search) (a .most) _ (filled k table lent) (k .walked-by .result) (k .walked-by .ensures) (c .before .enum-told2 .given .1)
-
-returns-3 : tie.Need-returns-3
-returns-3 c table lent ranked =
-    let k = c .before .before .before in
-    let a = k .before .before .before .args in
-    c .reply-of3 .ensures
-    ∙ all-undecided table (a .search) (a .most) _ (filled k table lent) (k .walked-by .result) (k .walked-by .ensures) (c .before .enum-told3 .given .1)
 
 pub search-all-spec : {M : Type 1} → statement M
 search-all-spec =
@@ -84,12 +69,8 @@ search-all-spec =
     fill-requires
     walked-by-requires
     enum-told
-    by-size-requires
     reply-of-requires
-    enum-told-2
-    reply-of-requires-2
-    enum-told-3
-    reply-of-requires-3
     returns
-    returns-2
-    returns-3)
+    by-size-requires
+    reply-of-requires-2
+    returns-2)

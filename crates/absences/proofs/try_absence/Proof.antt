@@ -1,6 +1,7 @@
 -- What `fill` says of the rows that are left is what the definition says of the absence. Assumes nothing.
 use mathlib.Core.Path.{_≡_, refl, ap, _∙_}
-use Prim.Native.Nat.{ℕ, _+_}
+use Prim.Native.Nat.{_+_}
+use native.Mathlib.Omega.{arith}
 use borrow.Author.Needs.{needs}
 use denote.Ref.{now}
 use Rattle.roster.specs.declared.Table.{Table}
@@ -14,7 +15,7 @@ use Rattle.absences.proofs.try_absence.Tie as tie
 returns : tie.Need-returns
 returns c table lent =
     let s0 = c .before .before in
-    absent-spent table (s0 .args .search .task) (s0 .args .search .crews) (s0 .args .search .size) _ _ (s0 .args .absent) (s0 .pre) (c .if1 .taken)
+    absent-spent table (s0 .args .search .task) (s0 .args .search .crews) (s0 .args .search .size) _ _ (s0 .args .absent) (s0 .pre) (omega (arith, c .if1 .taken))
 
 add-fill : tie.Need-add-fill
 add-fill c = search needs

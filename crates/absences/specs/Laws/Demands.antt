@@ -23,7 +23,8 @@ use Rattle.roster.specs.Replies.{noCrews, replyWith}
 use Rattle.roster.specs.Laws.Order.{first-blocker-unique}
 use Rattle.crews.specs.Filling.{filling}
 use Rattle.crews.specs.Named.{firstList}
-use Rattle.crews.specs.Laws.Exact.{Fair, finds-list, finds-none}
+use Rattle.crews.specs.Laws.Sound.{Eight, none-at}
+use Rattle.crews.specs.Laws.Exact.{crews-eight, crews-past, Fair, finds-list, finds-none}
 use Rattle.absences.specs.Tried.{Way, full, skipping, Found}
 use Rattle.absences.specs.Asked.{Refuses, Admits, needPolicy, PolicyReply}
 use Rattle.absences.specs.Replied.{verdictOf, repliedBy, policyReplyOf}
@@ -101,11 +102,15 @@ pub record Tells (way : Way) (table : Table) (P s d t allowance : ℕ) (r : Repl
   -- and no exactly if it does not
   pub no : (r .verdict ≡ No)
       ↔ (Admits table P s d t × (needPolicy way table P s d t ≤ allowance) × (Holds table P s d t → ⊥))
-  -- with yes comes a crew list with nobody absent, the first
+  -- with yes comes a crew list with nobody absent, the first; else no crews; always "eight sets; those past d are 0"
   pub crews : r .verdict ≡ Yes → (r .crews ≡ firstList table P d t 0) × CrewList table P d t 0 (take d (r .crews))
-  -- with no the first blocking absence
+  pub no-crews : r .verdict ≢ Yes → r .crews ≡ noCrews
+  pub eight : Eight d (r .crews)
+  -- with no the first blocking absence; else 0
   pub blocker : r .verdict ≡ No → FirstBlocker table P s d t (r .blocker)
-  -- the units: all that was allowed, or the need
+  pub no-blocker : r .verdict ≢ No → r .blocker ≡ 0
+  -- the units: none, all that was allowed, or the need
+  pub unspent : (refusal : Refusal) → r .verdict ≡ Refused refusal → r .units ≡ 0
   pub spent : r .verdict ≡ Undecided → r .units ≡ allowance
   pub units : r .verdict ≢ Undecided → Admits table P s d t → r .units ≡ needPolicy way table P s d t
 
@@ -123,58 +128,82 @@ never : {A : Type 0} → _≡_ {A = ℕ} 0 1 → A
 never e = absurd (omega arith)
 
 module _ (way : Way) (table : Table) (P s d t : ℕ) (wide : P < 2 ^ 32) (allowance : ℕ) (r : Reply) (a : PolicyReply way table P s d t allowance r) where
+  -- By the row that the question falls under: there the reply is given, and what is asked of another row cannot be.
   pub policy-exactly : Tells way table P s d t allowance r
   policy-exactly = go (policy-case way table P s d t wide allowance)
     where
+      empty : r .crews ≡ noCrews → Eight d (r .crews)
+      empty e = subst (Eight d) (sym e) (record { many = refl; past = λ j m. none-at j })
+
       go : Case way table P s d t allowance → Tells way table P s d t allowance r
       go (is-refused refusal e) =
-          let v : r .verdict ≡ Refused refusal = ap Reply.verdict (a .refused refusal e) in
+          let k = a .refused refusal e in
+          let v : r .verdict ≡ Refused refusal = ap Reply.verdict k in
           record {
             refused = λ n. (λ q. cc, λ q. cc);
             undecided = (λ q. never (cc), λ q. never (cc));
             yes = (λ q. never (cc), λ q. never (cc));
             no = (λ q. never (cc), λ q. never (cc));
             crews = λ q. never (cc);
+            no-crews = λ q. ap Reply.crews k;
+            eight = empty (ap Reply.crews k);
             blocker = λ q. never (cc);
+            no-blocker = λ q. ap Reply.blocker k;
+            unspent = λ n q. ap Reply.units k;
             spent = λ q. never (cc);
             units = λ n q. never (cc);
           }
       go (is-undecided e l) =
-          let v : r .verdict ≡ Undecided = ap Reply.verdict (a .undecided e l) in
+          let k = a .undecided e l in
+          let v : r .verdict ≡ Undecided = ap Reply.verdict k in
           record {
             refused = λ n. (λ q. never (cc), λ q. never (cc));
             undecided = (λ q. (e, l), λ q. v);
             yes = (λ q. never (cc), λ q. absurd (omega (arith, q .1)));
             no = (λ q. never (cc), λ q. absurd (omega (arith, q .1)));
             crews = λ q. never (cc);
+            no-crews = λ q. ap Reply.crews k;
+            eight = empty (ap Reply.crews k);
             blocker = λ q. never (cc);
-            spent = λ q. ap Reply.units (a .undecided e l);
+            no-blocker = λ q. ap Reply.blocker k;
+            unspent = λ n q. never (cc);
+            spent = λ q. ap Reply.units k;
             units = λ n q. absurd (n v);
           }
       go (is-yes e l h) =
-          let v : r .verdict ≡ Yes = ap Reply.verdict (a .yes e l h) in
-          let first : r .crews ≡ firstList table P d t 0 = ap Reply.crews (a .yes e l h) in
+          let k = a .yes e l h in
+          let v : r .verdict ≡ Yes = ap Reply.verdict k in
+          let first : r .crews ≡ firstList table P d t 0 = ap Reply.crews k in
           record {
             refused = λ n. (λ q. never (cc), λ q. never (cc));
             undecided = (λ q. never (cc), λ q. absurd (omega (arith, q .1)));
             yes = (λ q. (e, l, h), λ q. v);
             no = (λ q. never (cc), λ q. absurd (q .2 h));
             crews = λ q. (first, subst (λ (c : List ℕ). CrewList table P d t 0 (take d c)) (sym first) (holds-list table P s d t (admitted-fair table P s d t wide e) h));
+            no-crews = λ q. absurd (q v);
+            eight = subst (Eight d) (sym first) (record { many = crews-eight table P d t 0; past = crews-past table P d t 0 });
             blocker = λ q. never (cc);
+            no-blocker = λ q. ap Reply.blocker k;
+            unspent = λ n q. never (cc);
             spent = λ q. never (cc);
-            units = λ n q. ap Reply.units (a .yes e l h);
+            units = λ n q. ap Reply.units k;
           }
       go (is-no e l A f) =
-          let v : r .verdict ≡ No = ap Reply.verdict (a .no e l A f) in
+          let k = a .no e l A f in
+          let v : r .verdict ≡ No = ap Reply.verdict k in
           record {
             refused = λ n. (λ q. never (cc), λ q. never (cc));
             undecided = (λ q. never (cc), λ q. absurd (omega (arith, q .1)));
             yes = (λ q. never (cc), λ q. absurd (first-not-holds table P s d t A f (q .2)));
             no = (λ q. (e, l, first-not-holds table P s d t A f), λ q. v);
             crews = λ q. never (cc);
-            blocker = λ q. subst (FirstBlocker table P s d t) (sym (ap Reply.blocker (a .no e l A f))) f;
+            no-crews = λ q. ap Reply.crews k;
+            eight = empty (ap Reply.crews k);
+            blocker = λ q. subst (FirstBlocker table P s d t) (sym (ap Reply.blocker k)) f;
+            no-blocker = λ q. absurd (q v);
+            unspent = λ n q. never (cc);
             spent = λ q. never (cc);
-            units = λ n q. ap Reply.units (a .no e l A f);
+            units = λ n q. ap Reply.units k;
           }
 
 -- ---- demand 3
@@ -212,7 +241,7 @@ module _ (table : Table) (P s d t : ℕ) (wide : P < 2 ^ 32) where
       → r .verdict ≢ Undecided → q .verdict ≢ Undecided → (r .verdict ≡ q .verdict) × (r .crews ≡ q .crews) × (r .blocker ≡ q .blocker)
   demand-3-same = decided-alike full skipping
 
-  -- "with no more work counted": the first blocker is worth trying, so skipping leaves out only what comes before it, or none blocks
+  -- "with no more work counted": the first blocker is worth trying, so what is skipped before it only costs the other search units
   pub demand-3-need : Admits table P s d t → needPolicy skipping table P s d t ≤ needPolicy full table P s d t
   demand-3-need e =
       thinned-need table P d t (tried-thinned table P s) (tried-ascending full table P s) (λ B st.

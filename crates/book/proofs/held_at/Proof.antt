@@ -1,6 +1,6 @@
 -- By the two cases of the row's holdings. Assumes nothing.
 use borrow.Author.Needs.{needs}
-use mathlib.Core.Path.{_≡_, sym, ap, _∙_}
+use mathlib.Core.Path.{sym, ap, _∙_}
 use Rattle.book.specs.Parts.{heldOr0}
 use Rattle.book.proofs.held_at.Statement.{statement}
 use Rattle.book.proofs.held_at.Tie as tie

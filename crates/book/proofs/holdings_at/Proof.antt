@@ -1,6 +1,6 @@
 -- The number that stands four bytes past the row's place. Assumes nothing.
 use borrow.Author.Needs.{needs}
-use mathlib.Core.Path.{_≡_, sym, ap, _∙_}
+use mathlib.Core.Path.{sym, ap, _∙_}
 use native.Mathlib.Omega.{arith}
 use Rattle.book.specs.Reading.{fieldsAt}
 use Rattle.book.specs.Parts.{holdingsFrom}

@@ -1,5 +1,5 @@
 -- The section says how wide the number is. Assumes nothing.
-use mathlib.Core.Path.{_≡_, sym, ap, _∙_}
+use mathlib.Core.Path.{sym, ap, _∙_}
 use borrow.Author.Needs.{needs}
 use Rattle.book.specs.Steps.{leadIn}
 use Rattle.book.specs.declared.Section.{Section}

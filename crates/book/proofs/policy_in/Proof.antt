@@ -1,10 +1,9 @@
 -- What the fields at the policy's place make. Assumes nothing.
 use borrow.Author.Needs.{needs}
-use mathlib.Core.Path.{_≡_, sym, ap, _∙_}
+use mathlib.Core.Path.{sym, ap, _∙_}
 use native.Mathlib.Omega.{arith}
 use Rattle.book.specs.Parts.{listedBy, policyFrom}
-use Rattle.book.proofs.Looks.{both}
-use Rattle.book.proofs.Looks.{made-at}
+use Rattle.book.proofs.Looks.{both, made-at}
 use Rattle.book.specs.Laws.Places.{place-within}
 use Rattle.book.proofs.policy_in.Statement.{statement}
 use Rattle.book.proofs.policy_in.Tie as tie

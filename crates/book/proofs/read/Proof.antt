@@ -7,8 +7,7 @@ use Rattle.book.specs.Reading.{Found, startsOf, looksFromRows, readOf}
 use Rattle.book.specs.Steps.{pastIn, readRows}
 use Rattle.book.specs.declared.Section.the-variants.{Permissions}
 use Rattle.book.specs.declared.Reading.the-variants as read
-use Rattle.book.proofs.Looks.{both}
-use Rattle.book.proofs.Looks.{read-refused, read-on}
+use Rattle.book.proofs.Looks.{both, read-refused, read-on}
 use Rattle.book.proofs.read.Statement.{statement}
 use Rattle.book.proofs.read.Tie as tie
 

@@ -1,6 +1,6 @@
 -- The number that stands at the row's place. Assumes nothing.
 use borrow.Author.Needs.{needs}
-use mathlib.Core.Path.{_≡_, sym, ap, _∙_}
+use mathlib.Core.Path.{sym, ap, _∙_}
 use Rattle.book.specs.Reading.{fieldsAt}
 use Rattle.book.specs.Parts.{staffFrom}
 use Rattle.book.specs.declared.Staff.the-variants as staff

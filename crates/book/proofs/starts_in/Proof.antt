@@ -1,6 +1,6 @@
 -- What the reader replies says where the sections are taken to start. Assumes nothing.
 use borrow.Author.Needs.{needs}
-use mathlib.Core.Path.{_≡_, sym, ap, _∙_}
+use mathlib.Core.Path.{sym, ap, _∙_}
 use Rattle.book.specs.Parts.{startsIn, startsBy}
 use Rattle.book.proofs.Looks.{both}
 use Rattle.book.proofs.starts_in.Statement.{statement}

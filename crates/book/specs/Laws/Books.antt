@@ -2,100 +2,27 @@
 -- first fault; and so every byte string has one reply. Assumes nothing.
 use mathlib.Core.Path.{_≡_, refl, sym, ap, _∙_}
 use mathlib.Core.Logic.{_⊎_, inl, inr, _↔_}
-use mathlib.Core.Bool.{Bool, true, false, _||_}
-use mathlib.Core.List.{List, [], _∷_, _++_, append-assoc, append-nil}
-use Prim.Native.Nat.{ℕ, zero, suc, _+_, _*_, _^_, _≤_, _<_}
+use mathlib.Core.Bool.{false}
+use mathlib.Core.List.{List, [], _∷_, _++_, append-nil}
+use Prim.Native.Nat.{ℕ, _+_, _≤_}
 use native.Mathlib.Omega.{arith}
-use lib.Dec.{eqb, ltb}
-use mathlib.Core.Option.{Option, none}
-use lib.ListN.{length, getD, drop, length-append, drop-of-length-le}
-use lib.Seq.{drop-length}
-use borrow.Author.Tests.{ltb-false, le-ltb, eqb-false, ne-eqb}
+use lib.Dec.{ltb}
+use mathlib.Core.Option.{none}
+use lib.ListN.{length, drop, length-append, drop-of-length-le}
+use borrow.Author.Tests.{ltb-false, le-ltb, ne-eqb}
 use Rattle.roster.specs.Limits.{rowLimit}
 use Rattle.roster.specs.Refusals.{outside}
-use Rattle.book.specs.Layout.{
-  Contents,
-  Row,
-  codeWidths,
-  rowWidths,
-  policyWidths,
-  codeFields,
-  rowFields,
-  policyFields,
-  permissionLimit,
-  policyLimit,
-  section,
-  bytesOf,
-  Each,
-  Ascends,
-  PolicyFits,
-  Admitted,
-  LayoutOf,
-}
-use Rattle.book.specs.Reading.{
-  Found,
-  codes,
-  rows,
-  policies,
-  faultIf,
-  countAt,
-  sectionLooks,
-  past,
-  listedIn,
-  endLook,
-  looksFromPolicies,
-  looksFromRows,
-  looks,
-  firstFault,
-  startsOf,
-  readOf,
-}
-use Rattle.book.specs.Parts.{contentsOf, valuesAt, entriesAt}
+use Rattle.roster.specs.Laws.Rulings.{inside}
+use Rattle.book.specs.Layout.{Contents, codeWidths, rowWidths, policyWidths, codeFields, rowFields, policyFields, permissionLimit, policyLimit, section, bytesOf, Each, Admitted, LayoutOf}
+use Rattle.book.specs.Reading.{codes, rows, policies, countAt, sectionLooks, past, listedIn, endLook, looksFromPolicies, looksFromRows, looks, firstFault, startsOf, readOf}
+use Rattle.book.specs.Parts.{contentsOf, valuesAt}
 use Rattle.book.specs.Promises.{Bytes, AllSound, FirstFault, startsFor, Allows}
-use Rattle.book.specs.Laws.First.{
-  not-faulty,
-  no-fault,
-  sound-append,
-  append-sound,
-  all-sound,
-  first-faulty,
-  Split,
-  split,
-}
-use Rattle.book.specs.Laws.Sections.{
-  Fits,
-  Stands,
-  entries-length,
-  entries-fit,
-  section-read,
-  section-write,
-  SectionSound,
-  section-sound,
-  sound-section,
-  Faultless,
-}
-use Rattle.book.specs.Laws.Values.{
-  code-codec,
-  row-codec,
-  policy-codec,
-  each,
-  each-both,
-  codes-sound,
-  sound-codes,
-  rows-sound,
-  sound-rows,
-  policies-sound,
-  sound-policies,
-  code-fits,
-  fits-code,
-  row-fits,
-  fits-row,
-  policy-fits,
-}
+use Rattle.book.specs.Laws.First.{not-faulty, no-fault, sound-append, append-sound, all-sound, first-faulty, Split, split}
+use Rattle.book.specs.Laws.Sections.{entries-length, entries-fit, section-read, section-write, SectionSound, section-sound, sound-section}
+use Rattle.book.specs.Laws.Values.{code-codec, row-codec, policy-codec, each, each-both, codes-sound, sound-codes, rows-sound, sound-rows, policies-sound, sound-policies, code-fits, fits-code, row-fits, fits-row, policy-fits}
 use Rattle.book.specs.declared.Fault.{Fault}
 use Rattle.book.specs.declared.Fault.the-variants as fault
-use Rattle.book.specs.declared.Look.{Look}
-use Rattle.book.specs.declared.Look.the-variants.{Sound, Faulty}
+use Rattle.book.specs.declared.Look.the-variants.{Sound}
 use Rattle.book.specs.declared.Reading.{Reading}
 use Rattle.book.specs.declared.Reading.the-variants as read
 use Rattle.book.specs.declared.Starts.{Starts}
@@ -140,17 +67,6 @@ book-sound book s =
     (end, tt)))
 
 -- ---- a book without fault is a layout
-
-pub inside : (most n : ℕ) → outside most n ≡ false → (1 ≤ n) × (n ≤ most)
-inside most n e = go (eqb n 0) (ltb most n) refl refl e
-  where
-    go : (a b : Bool) → eqb n 0 ≡ a → ltb most n ≡ b → (a || b) ≡ false → (1 ≤ n) × (n ≤ most)
-    go true b p q r = let z : _≡_ {A = ℕ} 0 1 = cc in absurd (omega arith)
-    go false true p q r = let z : _≡_ {A = ℕ} 0 1 = cc in absurd (omega arith)
-    go false false p q r =
-        let n≢0 = eqb-false n 0 p in
-        let l = ltb-false most n q in
-        (omega arith, l)
 
 pub sound-bytes : (book : List ℕ) → Bytes book → BookSound book → book ≡ bytesOf (contentsOf book)
 unfolding bytesOf contentsOf

@@ -1,45 +1,17 @@
 -- "The longest book is 803 bytes": no good book is longer, and one is as long. Assumes nothing.
-use mathlib.Core.Path.{_≡_, refl, sym, ap, _∙_}
-use mathlib.Core.List.{List, [], _∷_, _++_}
-use Prim.Native.Nat.{ℕ, zero, suc, _+_, _*_, _^_, _≤_, _<_}
+use mathlib.Core.Path.{_≡_, refl, ap}
+use mathlib.Core.List.{List, _++_}
+use Prim.Native.Nat.{ℕ, zero, suc, _+_, _*_, _≤_, _<_}
 use native.Mathlib.Omega.{arith}
 use lib.ListN.{length, length-append}
 use Rattle.roster.specs.Limits.{rowLimit}
 use Rattle.roster.specs.Refusals.{policyRuling}
 use Rattle.roster.specs.declared.Policy.{Policy}
-use Rattle.book.specs.Layout.{
-  Contents,
-  Row,
-  codeWidths,
-  rowWidths,
-  policyWidths,
-  codeFields,
-  rowFields,
-  policyFields,
-  permissionLimit,
-  policyLimit,
-  section,
-  bytesOf,
-  Each,
-  Below,
-  Ascends,
-  PolicyFits,
-  Admitted,
-  LayoutOf,
-}
+use Rattle.book.specs.Layout.{Contents, Row, codeWidths, rowWidths, policyWidths, codeFields, rowFields, policyFields, permissionLimit, policyLimit, section, bytesOf, Each, Below, Ascends, Admitted, LayoutOf}
 use Rattle.book.specs.Reading.{codes, rows, policies}
 use Rattle.book.specs.Parts.{upFrom}
 use Rattle.book.specs.Laws.Sections.{joined-length}
-use Rattle.book.specs.Laws.Values.{
-  code-codec,
-  row-codec,
-  policy-codec,
-  each,
-  each-both,
-  code-fits,
-  row-fits,
-  policy-fits,
-}
+use Rattle.book.specs.Laws.Values.{code-codec, row-codec, policy-codec, each, each-both, code-fits, row-fits, policy-fits}
 
 -- how long a layout is
 pub layout-length : (v : Contents) → Admitted v

@@ -1,9 +1,8 @@
 -- The reply to any byte string is the reply to its first 804 bytes: of a longer one nothing matters but those and that it is longer. Assumes
 -- nothing.
 use mathlib.Core.Path.{_≡_, refl, sym, ap, _∙_}
-use mathlib.Core.Logic.{_⊎_, inl, inr}
-use mathlib.Core.Bool.{Bool, true, false}
-use mathlib.Core.Option.{Option, some}
+use mathlib.Core.Bool.{false}
+use mathlib.Core.Option.{some}
 use mathlib.Core.List.{List, [], _∷_, _++_}
 use Prim.Native.Nat.{ℕ, zero, suc, _+_, _*_, min, _≤_, _<_}
 use native.Mathlib.Nat.{mul-suc, lt-of-not-le}
@@ -14,45 +13,16 @@ use lib.ListN.{length, getD, take, length-take}
 use lib.Seq.{getD-take}
 use borrow.Author.Tests.{lt-ltb, le-ltb, ltb-false}
 use Rattle.roster.specs.Limits.{rowLimit}
-use Rattle.roster.specs.Refusals.{outside}
 use Rattle.book.specs.Layout.{permissionLimit, policyLimit}
-use Rattle.book.specs.Reading.{
-  Found,
-  Kind,
-  number,
-  fieldsAt,
-  total,
-  codes,
-  rows,
-  policies,
-  faultIf,
-  width,
-  entryAt,
-  prior,
-  countLook,
-  entryLook,
-  inTurn,
-  countAt,
-  sectionLooks,
-  past,
-  listedIn,
-  endLook,
-  looksFromPolicies,
-  looksFromRows,
-  looks,
-  firstFault,
-  startsOf,
-  readOf,
-}
+use Rattle.book.specs.Reading.{Found, Kind, number, fieldsAt, total, codes, rows, policies, faultIf, width, entryAt, prior, countLook, entryLook, inTurn, countAt, sectionLooks, past, listedIn, endLook, firstFault, readOf}
 use Rattle.book.specs.Laws.First.{not-faulty, first-append}
-use Rattle.book.specs.Laws.Books.{inside}
+use Rattle.roster.specs.Laws.Rulings.{inside}
 use Rattle.book.specs.declared.Fault.{Fault}
 use Rattle.book.specs.declared.Fault.the-variants as fault
 use Rattle.book.specs.declared.Look.{Look}
 use Rattle.book.specs.declared.Look.the-variants.{Sound, Faulty}
 use Rattle.book.specs.declared.Before.{Before}
 use Rattle.book.specs.declared.Before.the-variants.{Nothing, Entry}
-use Rattle.book.specs.declared.Reading.{Reading}
 use Rattle.book.specs.declared.Reading.the-variants as read
 use Rattle.book.specs.declared.Starts.{Starts}
 

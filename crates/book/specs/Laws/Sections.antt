@@ -1,50 +1,24 @@
 -- A section, for any kind of entry: what was written is read back, what was read is written again, and nothing of it is at fault exactly if
 -- it is whole, its count in range, and its values have none of their faults. Assumes nothing.
 use mathlib.Core.Path.{_≡_, refl, sym, ap, _∙_}
-use mathlib.Core.Bool.{Bool, true, false}
+use mathlib.Core.Bool.{false}
 use mathlib.Core.Option.{Option, some, none}
 use mathlib.Core.List.{List, [], _∷_, _++_, append-assoc}
 use Prim.Native.Nat.{ℕ, zero, suc, _+_, _*_, _≤_, _<_}
 use native.Mathlib.Nat.{mul-suc}
 use native.Mathlib.Numerals.{add-one}
 use native.Mathlib.Omega.{arith}
-use lib.Dec.{ltb}
-use lib.ListN.{length, getD, take, drop, length-append, take-append-drop}
+use lib.ListN.{length, take, drop, length-append, take-append-drop}
 use lib.Seq.{drop-drop, drop-cons, take-add}
 use borrow.Author.Tests.{ltb-false, le-ltb}
 use Rattle.book.specs.Layout.{fieldBytes, joined, section, Each}
-use Rattle.book.specs.Reading.{
-  Found,
-  Kind,
-  fieldsAt,
-  faultIf,
-  width,
-  entryAt,
-  prior,
-  countLook,
-  entryLook,
-  inTurn,
-  countAt,
-  sectionLooks,
-  past,
-}
+use Rattle.book.specs.Reading.{Kind, fieldsAt, width, entryAt, prior, countLook, entryLook, inTurn, countAt, sectionLooks, past}
 use Rattle.book.specs.Parts.{entriesAt, valuesAt}
 use Rattle.book.specs.Promises.{Bytes, AllSound}
 use Rattle.book.specs.Laws.First.{not-faulty, no-fault}
-use Rattle.book.specs.Laws.Codec.{
-  after,
-  head-at,
-  tail-at,
-  Fit,
-  fields-length,
-  fields-read,
-  fields-write,
-  fields-fit,
-}
-use Rattle.book.specs.declared.Fault.{Fault}
+use Rattle.book.specs.Laws.Codec.{after, head-at, tail-at, Fit, fields-length, fields-read, fields-write, fields-fit}
 use Rattle.book.specs.declared.Fault.the-variants as fault
-use Rattle.book.specs.declared.Look.{Look}
-use Rattle.book.specs.declared.Look.the-variants.{Sound, Faulty}
+use Rattle.book.specs.declared.Look.the-variants.{Sound}
 use Rattle.book.specs.declared.Before.{Before}
 use Rattle.book.specs.declared.Before.the-variants.{Nothing, Entry}
 

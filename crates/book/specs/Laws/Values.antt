@@ -1,49 +1,24 @@
 -- The three kinds of entry: their values have no fault exactly if they are admitted. Assumes nothing.
-use mathlib.Core.Path.{_≡_, refl, sym, ap, _∙_}
-use mathlib.Core.Bool.{Bool, true, false}
+use mathlib.Core.Path.{_≡_, refl, ap}
 use mathlib.Core.Option.{Option, some, none}
 use mathlib.Core.List.{List, [], _∷_}
-use Prim.Native.Nat.{ℕ, zero, suc, _+_, _^_, _≤_, _<_}
+use Prim.Native.Nat.{ℕ, _^_, _≤_, _<_}
 use native.Mathlib.Nat.{lt-of-lt-of-le}
 use native.Mathlib.Omega.{arith}
-use lib.Dec.{leb, ltb}
-use lib.ListN.{length}
+use lib.Dec.{leb}
 use lib.Pow.{pow-mono}
 use borrow.Author.Tests.{leb-false, lt-leb}
-use Rattle.roster.specs.Refusals.{policyRuling, madeOf, madeBy}
+use Rattle.roster.specs.Refusals.{policyRuling, madeBy}
 use Rattle.roster.specs.Laws.Rulings.{policy-within}
 use Rattle.roster.specs.declared.Policy.{Policy}
 use Rattle.roster.specs.declared.Ruling.{Ruling}
 use Rattle.roster.specs.declared.Ruling.the-variants as ruling
-use Rattle.roster.specs.declared.Made.the-variants as made
-use Rattle.book.specs.Layout.{
-  Row,
-  codeFields,
-  rowFields,
-  policyFields,
-  permissionLimit,
-  Each,
-  Below,
-  Ascends,
-  PolicyFits,
-}
-use Rattle.book.specs.Reading.{
-  Kind,
-  fieldsAt,
-  faultIf,
-  notAbove,
-  pastListed,
-  codes,
-  rows,
-  policies,
-  staffOf,
-  byMade,
-}
+use Rattle.book.specs.Layout.{Row, codeFields, rowFields, policyFields, permissionLimit, Each, Below, Ascends, PolicyFits}
+use Rattle.book.specs.Reading.{Kind, fieldsAt, pastListed, codes, rows, policies, byMade}
 use Rattle.book.specs.Laws.Codec.{Fit}
 use Rattle.book.specs.Laws.First.{not-faulty, no-fault}
 use Rattle.book.specs.Laws.Sections.{Codec, Fits, Faultless}
 use Rattle.book.specs.declared.Fault.the-variants as fault
-use Rattle.book.specs.declared.Look.{Look}
 use Rattle.book.specs.declared.Look.the-variants.{Sound}
 
 -- ---- a value and its fields

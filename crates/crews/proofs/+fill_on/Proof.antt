@@ -12,7 +12,6 @@ use borrow.Fn.PlainCycle.{Measures, is, falls, and}
 use Rattle.sets.proofs.size.Reads as size-reads
 use Rattle.crews.specs.declared.Filling.{Filling}
 use Rattle.crews.specs.Filled.{at}
-use Rattle.crews.specs.Filling.{plainly}
 use Rattle.crews.specs.Laws.Search.{search-done, search-full}
 use Rattle.crews.specs.Laws.Steps as step
 use Rattle.crews.proofs.Turns as turn
@@ -59,10 +58,25 @@ callees t = (
 
 abbrev fill-on-Inv-loop : fill-on-lts.InvT-loop
 fill-on-Inv-loop holds holders task crews size f spent allowance closed rest₀ units₀ rest units =
-    turn.Going holds holders task crews size f spent allowance rest units
+    turn.Going
+    (record { holds = holds; holders = holders; task = task; crews = crews; size = size; state = f; spent = spent; allowance = allowance })
+    rest units
 
 abbrev fill-on-μ-loop : fill-on-lts.MeasureT-loop
 fill-on-μ-loop holds holders task crews size f spent allowance closed rest₀ units₀ rest units = ones rest
+
+abbrev asked : (t : ℕ) → fill-on-lts.Start (callees t) (fill-on-at t) fill-on.Post fill-on-Inv-loop fill-on-μ-loop → turn.Asked
+asked t s =
+    record {
+      holds = s .args .holds .now;
+      holders = s .args .holders .now;
+      task = s .args .task;
+      crews = s .args .crews;
+      size = s .args .size;
+      state = s .args .f;
+      spent = s .args .spent;
+      allowance = s .args .allowance;
+    }
 
 fill-on-complete-requires : (t : ℕ) → fill-on-lts.Need-complete-requires (callees t) (fill-on-at t) fill-on.Post fill-on-Inv-loop fill-on-μ-loop
 fill-on-complete-requires t c κs = search needs
@@ -70,9 +84,9 @@ fill-on-complete-requires t c κs = search needs
 fill-on-returns : (t : ℕ) → fill-on-lts.Need-returns (callees t) (fill-on-at t) fill-on.Post fill-on-Inv-loop fill-on-μ-loop
 fill-on-returns t c =
     let s0 = c .before .before .before in
-    let s = s0 .args in
+    let a = asked t s0 in
     c .complete .ensures
-    ∙ step.says-complete (s .allowance) (s .spent) (s .f .crews) _ (search-done (plainly (at (s .holds .now)) (at (s .holders .now)) (s .task) (s .crews) (s .size)) (s .f) (ones (s .f .free)) (c .before .if1 .taken))
+    ∙ step.says-complete (a .allowance) (a .spent) (a .state .crews) _ (search-done (turn.rule a) (a .state) (ones (a .state .free)) (c .before .if1 .taken))
     (s0 .pre .1 .within)
 
 fill-on-mul-size : (t : ℕ) → fill-on-lts.Need-mul-size (callees t) (fill-on-at t) fill-on.Post fill-on-Inv-loop fill-on-μ-loop
@@ -90,10 +104,11 @@ fill-on-without-crews-requires t c κs = search needs
 fill-on-returns-2 : (t : ℕ) → fill-on-lts.Need-returns-2 (callees t) (fill-on-at t) fill-on.Post fill-on-Inv-loop fill-on-μ-loop
 fill-on-returns-2 t c =
     let s0 = c .before .before .before .before .before in
-    let s = s0 .args in
+    let a = asked t s0 in
     c .without-crews .ensures
-    ∙ step.says-exhausted (s .allowance) (s .spent) _
-    (search-full (plainly (at (s .holds .now)) (at (s .holders .now)) (s .task) (s .crews) (s .size)) (s .f) (ones (s .f .free)) (c .before .before .before .if1 .left) (rw (c .before .before .size .ensures) at (c .before .if2 .taken)))
+    ∙ step.says-exhausted (a .allowance) (a .spent) _
+    (search-full (turn.rule a) (a .state) (ones (a .state .free)) (c .before .before .before .if1 .left)
+    (omega (arith, c .before .before .size .ensures, c .before .if2 .taken)))
     (s0 .pre .1 .within)
 
 fill-on-missing-requires : (t : ℕ) → fill-on-lts.Need-missing-requires (callees t) (fill-on-at t) fill-on.Post fill-on-Inv-loop fill-on-μ-loop
@@ -105,21 +120,19 @@ fill-on-candidates-requires t c κs = search needs
 fill-on-loop-holds : (t : ℕ) → fill-on-lts.Need-loop-holds (callees t) (fill-on-at t) fill-on.Post fill-on-Inv-loop fill-on-μ-loop
 fill-on-loop-holds t c =
     let s0 = c .before .before .before .before .before .before .before in
-    let s = s0 .args in
-    turn.begun (s .holds .now) (s .holders .now) (s .task) (s .crews) (s .size) (s .f) (s .spent) (s .allowance) (c .candidates .result)
-    (c .candidates .ensures ∙ ap (λ (m : ℕ). bitAnd (at (s .holders .now) (trailingZeros 32 m)) (s .f .free)) (c .before .missing .ensures))
-    (c .candidates .ok) (s0 .pre .1 .within) (c .before .before .before .before .before .if1 .left) (rw (c .before .before .before .before .size .ensures) at (c .before .before .before .if2 .left))
+    let a = asked t s0 in
+    turn.begun a
+    (c .candidates .ensures ∙ ap (λ (m : ℕ). bitAnd (at (a .holders) (trailingZeros 32 m)) (a .state .free)) (c .before .missing .ensures))
+    (c .candidates .ok) (s0 .pre .1 .within) (c .before .before .before .before .before .if1 .left) (omega (arith, c .before .before .before .before .size .ensures, c .before .before .before .if2 .left))
 
 fill-on-without-crews-requires-2 : (t : ℕ) → fill-on-lts.Need-without-crews-requires-2 (callees t) (fill-on-at t) fill-on.Post fill-on-Inv-loop fill-on-μ-loop
 fill-on-without-crews-requires-2 t c κs = search needs
 
 fill-on-returns-3 : (t : ℕ) → fill-on-lts.Need-returns-3 (callees t) (fill-on-at t) fill-on.Post fill-on-Inv-loop fill-on-μ-loop
 fill-on-returns-3 t c =
-    let top = c .before .before .before in
-    let s = top .before .before .before .before .before .before .before .before .args in
-    let l = top .loop in
+    let l = c .before .before .before .loop in
     c .without-crews2 .ensures
-    ∙ turn.spent-out (s .holds .now) (s .holders .now) (s .task) (s .crews) (s .size) (s .f) (s .spent) (s .allowance) (l .rest) (l .units) (l .inv) (trailingZeros 64 (l .rest)) refl (c .before .before .loop-test .taken) (c .before .if3 .taken)
+    ∙ turn.spent-out (l .inv) {row = trailingZeros 64 (l .rest)} refl (c .before .before .loop-test .taken) (omega (arith, c .before .if3 .taken))
 
 fill-on-least-requires : (t : ℕ) → fill-on-lts.Need-least-requires (callees t) (fill-on-at t) fill-on.Post fill-on-Inv-loop fill-on-μ-loop
 fill-on-least-requires t c κs = search needs
@@ -128,49 +141,34 @@ fill-on-cast-row : (t : ℕ) → fill-on-lts.Need-cast-row (callees t) (fill-on-
 fill-on-cast-row t c = search needs
 
 fill-on-shl-rest : (t : ℕ) → fill-on-lts.Need-shl-rest (callees t) (fill-on-at t) fill-on.Post fill-on-Inv-loop fill-on-μ-loop
-fill-on-shl-rest t c =
-    let top = c .before .before .before in
-    let s = top .before .before .before .before .before .before .before .before .args in
-    let l = top .loop in
-    let row = c .least in
-    turn.row-below (s .holds .now) (s .holders .now) (s .task) (s .crews) (s .size) (s .f) (s .spent) (s .allowance) (l .rest) (l .units) (l .inv) (row .result) (row .ensures) (c .before .before .loop-test .taken)
+fill-on-shl-rest t c = turn.row-below (c .before .before .before .loop .inv) (c .least .ensures) (c .before .before .loop-test .taken)
 
 fill-on-mul-placed : (t : ℕ) → fill-on-lts.Need-mul-placed (callees t) (fill-on-at t) fill-on.Post fill-on-Inv-loop fill-on-μ-loop
 fill-on-mul-placed t c = search needs
 
 fill-on-element-copy-out-placed : (t : ℕ) → fill-on-lts.Need-element-copy-out-placed (callees t) (fill-on-at t) fill-on.Post fill-on-Inv-loop fill-on-μ-loop
-fill-on-element-copy-out-placed t c =
-    let top = c .before .before .before in
-    let s = top .before .before .before .before .before .before .before .before .args in
-    let l = top .loop in
-    let row = c .least in
-    turn.row-below (s .holds .now) (s .holders .now) (s .task) (s .crews) (s .size) (s .f) (s .spent) (s .allowance) (l .rest) (l .units) (l .inv) (row .result) (row .ensures) (c .before .before .loop-test .taken)
+fill-on-element-copy-out-placed t c = turn.row-below (c .before .before .before .loop .inv) (c .least .ensures) (c .before .before .loop-test .taken)
 
 fill-on-placed-requires : (t : ℕ) → fill-on-lts.Need-placed-requires (callees t) (fill-on-at t) fill-on.Post fill-on-Inv-loop fill-on-μ-loop
 fill-on-placed-requires t c κs =
-    let top = c .before .before .before .before in
-    let s = top .before .before .before .before .before .before .before .before .args in
-    let l = top .loop in
-    let row = c .before .least in
-    let ready = top .before .before .before .before .before .before .before .before .pre .1 in
-    (turn.row-below (s .holds .now) (s .holders .now) (s .task) (s .crews) (s .size) (s .f) (s .spent) (s .allowance) (l .rest) (l .units) (l .inv) (row .result) (row .ensures) (c .before .before .before .loop-test .taken), omega (arith, ready .few, ready .closed, top .before .before .before .before .before .before .if1 .left))
+    let s0 = c .before .before .before .before .before .before .before .before .before .before .before .before in
+    let ready = s0 .pre .1 in
+    (turn.row-below (c .before .before .before .before .loop .inv) (c .before .least .ensures) (c .before .before .before .loop-test .taken), omega (arith, ready .few, ready .closed, c .before .before .before .before .before .before .before .before .before .before .if1 .left))
 
 fill-on-add-fill-on : (t : ℕ) → fill-on-lts.Need-add-fill-on (callees t) (fill-on-at t) fill-on.Post fill-on-Inv-loop fill-on-μ-loop
 fill-on-add-fill-on t c = search needs
 
 fill-on-fill-on-requires : (t : ℕ) → fill-on-lts.Need-fill-on-requires (callees t) (fill-on-at t) fill-on.Post fill-on-Inv-loop fill-on-μ-loop
 fill-on-fill-on-requires t c κs =
-    let top = c .before .before .before .before .before in
-    let s = top .before .before .before .before .before .before .before .before .args in
-    let l = top .loop in
+    let s0 = c .before .before .before .before .before .before .before .before .before .before .before .before .before in
+    let a = asked t s0 in
     let row = c .before .before .least in
-    let s0 = top .before .before .before .before .before .before .before .before in
     let e = c .placed .ensures in
-    let free = turn.row-free (s .holds .now) (s .holders .now) (s .task) (s .crews) (s .size) (s .f) (s .spent) (s .allowance) (l .rest) (l .units) (l .inv) (row .result) (row .ensures) (c .before .before .before .before .loop-test .taken) in
+    let free = turn.row-free (c .before .before .before .before .before .loop .inv) (row .ensures) (c .before .before .before .before .loop-test .taken) in
+    let falls = turn.placed-falls (a .task) (a .state) (row .result) (at (a .holds) (row .result)) free in
     let n = ap (λ (g : Filling). ones (g .free)) e in (
-      omega (arith, n, s0 .pre .0, turn.placed-falls (s .task) (s .f) (row .result) (at (s .holds .now) (row .result)) free),
-      rw e (turn.placed-ready (s .task) (s .f) (row .result) (at (s .holds .now) (row .result)) (s .crews) (s .spent) (l .units) (s .allowance)
-          (s0 .pre .1) (top .before .before .before .before .before .before .if1 .left) (c .before .before .before .if3 .left)),
+      omega (arith, n, s0 .pre .0, falls),
+      rw e (turn.placed-ready (a .task) (a .state) (row .result) (at (a .holds) (row .result)) (s0 .pre .1) (c .before .before .before .before .before .before .before .before .before .before .before .if1 .left) (c .before .before .before .if3 .left)),
     )
 
 fill-on-enum-told : (t : ℕ) → fill-on-lts.Need-enum-told (callees t) (fill-on-at t) fill-on.Post fill-on-Inv-loop fill-on-μ-loop
@@ -178,40 +176,23 @@ fill-on-enum-told t c = search needs
 
 fill-on-returns-4 : (t : ℕ) → fill-on-lts.Need-returns-4 (callees t) (fill-on-at t) fill-on.Post fill-on-Inv-loop fill-on-μ-loop
 fill-on-returns-4 t c =
-    let top = c .before .before .before .before .before .before .before in
-    let s = top .before .before .before .before .before .before .before .before .args in
-    let l = top .loop in
-    let row = c .before .before .before .before .least in
-    turn.ended-here (s .holds .now) (s .holders .now) (s .task) (s .crews) (s .size) (s .f) (s .spent) (s .allowance) (l .rest) (l .units) (l .inv) (row .result) (row .ensures) (c .before .before .before .before .before .before .loop-test .taken) (at (s .holds .now) (row .result)) refl
-    (c .before .before .placed .result) (c .before .before .placed .ensures) (c .before .fill-on .result) (c .before .fill-on .ensures)
+    turn.ended-here (c .before .before .before .before .before .before .before .loop .inv) (c .before .before .before .before .least .ensures) (c .before .before .before .before .before .before .loop-test .taken) (c .before .before .placed .ensures) (c .before .fill-on .ensures)
     (λ e. ⊎-elim (λ z. omega arith) (λ z. omega arith) (rw e at (c .match .keys2)))
 
 fill-on-loop-less : (t : ℕ) → fill-on-lts.Need-loop-less (callees t) (fill-on-at t) fill-on.Post fill-on-Inv-loop fill-on-μ-loop
 fill-on-loop-less t c =
-    let top = c .before .before .before .before .before .before .before .before in
-    let s = top .before .before .before .before .before .before .before .before .args in
-    let l = top .loop in
-    let row = c .before .before .before .before .before .least in
-    turn.rest-falls (s .holds .now) (s .holders .now) (s .task) (s .crews) (s .size) (s .f) (s .spent) (s .allowance) (l .rest) (l .units) (l .inv) (row .result) (row .ensures) (c .before .before .before .before .before .before .before .loop-test .taken)
+    turn.rest-falls (c .before .before .before .before .before .before .before .before .loop .inv) (c .before .before .before .before .before .least .ensures) (c .before .before .before .before .before .before .before .loop-test .taken)
 
 fill-on-loop-again : (t : ℕ) → fill-on-lts.Need-loop-again (callees t) (fill-on-at t) fill-on.Post fill-on-Inv-loop fill-on-μ-loop
 fill-on-loop-again t c =
-    let top = c .before .before .before .before .before .before .before .before in
-    let s = top .before .before .before .before .before .before .before .before .args in
-    let l = top .loop in
-    let row = c .before .before .before .before .before .least in
-    turn.exhausted-here (s .holds .now) (s .holders .now) (s .task) (s .crews) (s .size) (s .f) (s .spent) (s .allowance) (l .rest) (l .units) (l .inv) (row .result) (row .ensures) (c .before .before .before .before .before .before .before .loop-test .taken) (at (s .holds .now) (row .result)) refl (c .before .before .before .placed .result) (c .before .before .before .placed .ensures)
-    (c .before .before .fill-on .result) (c .before .before .fill-on .ensures) (c .enum-told .given .1)
+    turn.exhausted-here (c .before .before .before .before .before .before .before .before .loop .inv) (c .before .before .before .before .before .least .ensures) (c .before .before .before .before .before .before .before .loop-test .taken) (c .before .before .before .placed .ensures) (c .before .before .fill-on .ensures)
+    (c .enum-told .given .1)
 
 fill-on-without-crews-requires-3 : (t : ℕ) → fill-on-lts.Need-without-crews-requires-3 (callees t) (fill-on-at t) fill-on.Post fill-on-Inv-loop fill-on-μ-loop
 fill-on-without-crews-requires-3 t c κs = search needs
 
 fill-on-returns-5 : (t : ℕ) → fill-on-lts.Need-returns-5 (callees t) (fill-on-at t) fill-on.Post fill-on-Inv-loop fill-on-μ-loop
-fill-on-returns-5 t c =
-    let top = c .before .before in
-    let s = top .before .before .before .before .before .before .before .before .args in
-    let l = top .loop in
-    c .without-crews3 .ensures ∙ turn.ended (s .holds .now) (s .holders .now) (s .task) (s .crews) (s .size) (s .f) (s .spent) (s .allowance) (l .rest) (l .units) (l .inv) (c .before .loop-test .left)
+fill-on-returns-5 t c = c .without-crews3 .ensures ∙ turn.ended (c .before .before .loop .inv) (c .before .loop-test .left)
 
 pub +fill-on-spec : {M : Type 1} → statement M
 +fill-on-spec = close μ-fill-on λ t. fill-on-lts.spec (callees t)

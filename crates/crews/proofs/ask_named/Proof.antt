@@ -7,7 +7,7 @@ use Prim.Native.Nat.{ℕ, _-_, _^_, _≤_, _<_}
 use native.Mathlib.Nat.{zero-add}
 use native.Mathlib.Omega.{arith}
 use borrow.Author.Needs.{needs}
-use Rattle.sets.specs.Sets.{minus}
+use Rattle.sets.specs.Sets.{minus, below-within}
 use Rattle.roster.specs.declared.Table.{Table}
 use Rattle.roster.specs.declared.Refusal.{Refusal}
 use Rattle.roster.specs.declared.Ruling.the-variants as ruling
@@ -81,11 +81,8 @@ holdings-within-requires c κs = search needs
 holders-of-requires : tie.Need-holders-of-requires
 holders-of-requires c κs = search needs
 
-everyone-requires : tie.Need-everyone-requires
-everyone-requires c κs =
-    let s = c .before .before .before .before .before .before .before .before .args in
-    named-within (s .table .rows) (s .task) (s .crews) (s .size) (s .absent)
-    (sym (c .before .before .before .before .before .before .before .named-ruling .ensures) ∙ c .before .before .before .before .before .enum-told .given .1) .0 .rows
+below-requires : tie.Need-below-requires
+below-requires c κs = search needs
 
 fill-requires : tie.Need-fill-requires
 fill-requires c κs = search needs
@@ -111,8 +108,8 @@ returns-2 c =
     (c .before .fill .ensures
     ∙ ap (filledOf (s .allowance) 0)
     (same-filling (s .table) (s .task) (s .crews) (s .size) (s .absent) (k .rows) wide (k .few) (c .before .before .before .before .before .before .before .holdings-within .result)
-    (c .before .before .before .before .before .holders-of .result) (c .before .before .everyone .result) (c .before .before .before .before .before .before .before .holdings-within .ensures) (c .before .before .before .before .before .holders-of .ensures)
-    (c .before .before .everyone .ensures))))
+    (c .before .before .before .before .before .holders-of .result) (c .before .before .below .result) (c .before .before .before .before .before .before .before .holdings-within .ensures) (c .before .before .before .before .before .holders-of .ensures)
+    (c .before .before .below .ensures ∙ below-within 64 (s .table .rows) (k .rows)))))
 
 pub ask-named-spec : {M : Type 1} → statement M
 ask-named-spec =
@@ -123,7 +120,7 @@ ask-named-spec =
     enum-told
     holdings-within-requires
     holders-of-requires
-    everyone-requires
+    below-requires
     fill-requires
     reply-of-requires
     returns

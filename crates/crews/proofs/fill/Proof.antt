@@ -28,7 +28,7 @@ returns-2 c =
     let s = c .before .before .before .args in
     let w = plainly (at (s .holds .now)) (at (s .holders .now)) (s .task) (s .crews) (s .size) in
     c .without-crews2 .ensures
-    ∙ says-exhausted (s .allowance) (s .spent) (foundFrom w (s .free)) (found-many w (s .free) (c .before .if2 .taken)) (c .before .before .if1 .left)
+    ∙ says-exhausted (s .allowance) (s .spent) (foundFrom w (s .free)) (found-many w (s .free) (c .before .if2 .taken)) (omega (arith, c .before .before .if1 .left))
 
 begin-requires : tie.Need-begin-requires
 begin-requires c κs = search needs

@@ -77,7 +77,7 @@ module _ (table : Table) (P d : ℕ) (fair : Fair table P d) (t A : ℕ) where
 module _ {table : Table} {P d : ℕ} (fair : Fair table P d) (t A : ℕ) where
   -- what it finds is a crew list
   pub finds-list : filling table P d t A .found ≡ true → CrewList table P d t A (take d (filling table P d t A .crews))
-  finds-list = sound table (fair .rows) A (workOf table P d t) (fair .few) (work-agrees table P d t (fair .rows)) (ones (present table A))
+  finds-list = sound table (fair .rows) A (workOf table P d t) (fair .few) (work-agrees table P d t (fair .rows)) _
 
   -- where A blocks it finds none
   pub blocks-none : Blocks table P d t A → filling table P d t A .found ≡ false
@@ -112,7 +112,7 @@ holds-all fair s t h A a = ⊎-elim (λ x. x) (λ b. absurd (h A a b)) (decide f
 -- ---- "Crews are eight sets; those past d are 0."
 
 pub crews-eight : (table : Table) (P d t A : ℕ) → length (filling table P d t A .crews) ≡ crewLimit
-crews-eight table P d t A = eight (ones (present table A)) (workOf table P d t) (present table A) .many
+crews-eight table P d t A = eight _ (workOf table P d t) (present table A) .many
 
 pub crews-past : (table : Table) (P d t A j : ℕ) → d ≤ j → getD (filling table P d t A .crews) j 0 ≡ 0
-crews-past table P d t A j h = eight (ones (present table A)) (workOf table P d t) (present table A) .past j h
+crews-past table P d t A j h = eight _ (workOf table P d t) (present table A) .past j h

@@ -161,7 +161,7 @@ module _ (holds holders : ℕ → ℕ) (P d t : ℕ) (f : Filling) where
       go (inr e) = rw (e, candidates)
 
   -- where no row is free there is none to try
-  pub search-tries : f .closed ≢ d → ones (crewOf f) < t
+  pub search-tries : f .closed ≢ rule .crews → ones (crewOf f) < rule .size
       → search (ones (f .free)) rule f ≡ tryEach (λ g. search (ones (f .free) - 1) rule g) rule f (members 0 64 all)
   search-tries e h = go (ones (f .free)) refl
     where

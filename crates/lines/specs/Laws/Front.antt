@@ -7,8 +7,9 @@ use native.Mathlib.Omega.{arith}
 use lib.ListN.{length, take}
 use lib.Seq.{take-all}
 use borrow.Author.Tests.{ltb-false}
+use Rattle.roster.specs.Laws.Rulings.{inside}
 use Rattle.book.specs.Reading.{countAt, past}
-use Rattle.book.specs.Laws.Books.{rowsAt, policiesAt, BookSound, Good, Refused, inside, reply}
+use Rattle.book.specs.Laws.Books.{rowsAt, policiesAt, BookSound, Good, Refused, reply}
 use Rattle.book.specs.Laws.Prefix.{prefix-reply}
 use Rattle.lines.specs.Sheet.{sheetBy, sheetOf}
 

@@ -9,7 +9,7 @@ use lib.Dec.{eqb, leb}
 use lib.Pow.{pow-mono}
 use borrow.Author.Needs.{needs}
 use borrow.Author.Tests.{le-leb, lt-leb, eq-eqb, ne-eqb}
-use Rattle.roster.specs.Laws.Rulings.{shifted-out}
+use Rattle.sets.specs.Sets.{shifted-out}
 use Rattle.roster.proofs.past_rows.Statement.{statement}
 use Rattle.roster.proofs.past_rows.Tie as tie
 

@@ -2,15 +2,14 @@
 use mathlib.Core.Path.{_≡_, refl, sym, ap, _∙_}
 use mathlib.Core.Logic.{_⊎_, inl, inr, _↔_}
 use mathlib.Core.Bool.{Bool, true, false, _||_}
-use Prim.Native.Nat.{ℕ, _+_, _*_, _/_, _%_, _^_, _≤_, _<_}
-use native.Mathlib.Nat.{lt-of-not-le, lt-of-le-of-lt, div-le-self, mod-lt}
+use Prim.Native.Nat.{ℕ, _+_, _/_, _^_, _≤_, _<_}
+use native.Mathlib.Nat.{lt-of-not-le, lt-of-le-of-lt, div-le-self}
 use native.Mathlib.Decide.{decLe}
 use native.Mathlib.Omega.{arith}
 use lib.Count.{trailingZeros}
 use lib.Dec.{eqb, leb, ltb}
-use lib.Pow.{pow-pos, split}
 use borrow.Author.Tests.{ltb-false, leb-false, eqb-false}
-use Rattle.sets.specs.Sets.{Has, bit-high, bit-shr, trailing-least}
+use Rattle.sets.specs.Sets.{Has, bit-high, bit-shr, shifted-out, trailing-least}
 use Rattle.roster.specs.declared.Refusal.{Refusal}
 use Rattle.roster.specs.declared.Refusal.the-variants.{Rows, Task, Away, Crews, Size, Absence}
 use Rattle.roster.specs.declared.Ruling.{Ruling}
@@ -55,7 +54,8 @@ no-fault : (b : Bool) (refusal : Refusal) (rest : Ruling) → refusedIf b refusa
 no-fault true refusal rest e = let z : _≡_ {A = ℕ} 0 1 = cc in absurd (omega arith)
 no-fault false refusal rest e = (refl, e)
 
-inside : (most x : ℕ) → outside most x ≡ false → (1 ≤ x) × (x ≤ most)
+-- a number that is not outside is one of 1 to most
+pub inside : (most x : ℕ) → outside most x ≡ false → (1 ≤ x) × (x ≤ most)
 inside most x e = go (eqb x 0) (ltb most x) refl refl e
   where
     go : (a b : Bool) → eqb x 0 ≡ a → ltb most x ≡ b → (a || b) ≡ false → (1 ≤ x) × (x ≤ most)
@@ -103,12 +103,6 @@ named-within rows P d t A e =
       },
       leb-false (2 ^ rows) A (six .0),
     )
-
--- a shift that leaves nothing of a set shows that it is below 2 ^ k
-pub shifted-out : (k m : ℕ) → m / 2 ^ k ≡ 0 → m < 2 ^ k
-shifted-out k m e =
-    let s : 0 * 2 ^ k + m % 2 ^ k ≡ m = ap (λ (x : ℕ). x * 2 ^ k + m % 2 ^ k) (sym e) ∙ split m k in
-    omega (arith, mod-lt m (pow-pos k))
 
 -- a set is no set of rows exactly if it has a bit at or past the row count
 pub past-rows-iff : (rows A : ℕ) → A < 2 ^ 64 → (2 ^ rows ≤ A) ↔ ((i : ℕ) × (rows ≤ i) × Has A i)

@@ -156,13 +156,20 @@ ext-all a b e =
 
 -- ---- a mask's width
 
+-- a mask of which a shift by k leaves nothing is below 2 ^ k
+pub shifted-out : (k m : ℕ) → m / 2 ^ k ≡ 0 → m < 2 ^ k
+shifted-out k m e =
+    let s : 0 * 2 ^ k + m % 2 ^ k ≡ m = ap (λ (x : ℕ). x * 2 ^ k + m % 2 ^ k) (sym e) ∙ split m k in
+    omega (arith, mod-lt m (pow-pos k))
+
 -- a mask whose members are below k is below 2 ^ k
 pub lt-of-bits : (k m : ℕ) → ((i : ℕ) → k ≤ i → bit m i ≡ 0) → m < 2 ^ k
 lt-of-bits k m h =
-    let e : m / 2 ^ k ≡ 0 = ext-all (m / 2 ^ k) 0 (λ i. bit-shr m k i ∙ h (k + i) (omega arith) ∙ sym (bit-none i)) in
-    let s : m / 2 ^ k * 2 ^ k + m % 2 ^ k ≡ m = split m k in
-    let r : 0 * 2 ^ k + m % 2 ^ k ≡ m = ap (λ (x : ℕ). x * 2 ^ k + m % 2 ^ k) (sym e) ∙ s in
-    omega (arith, mod-lt m (pow-pos k))
+    shifted-out k m (ext-all (m / 2 ^ k) 0 (λ i. bit-shr m k i ∙ h (k + i) (omega arith) ∙ sym (bit-none i)))
+
+-- within the width, `below` gives all the numbers below n
+pub below-within : (w n : ℕ) → n ≤ w → 2 ^ min n w - 1 ≡ 2 ^ n - 1
+below-within w n l = let e : min n w ≡ n = omega arith in ap (λ (x : ℕ). 2 ^ x - 1) e
 
 -- a wider complement makes no difference
 pub minus-width : (k w a b : ℕ) → k ≤ w → a < 2 ^ k → b < 2 ^ k → minus w a b ≡ minus k a b

@@ -1,0 +1,70 @@
+#!/usr/bin/env bash
+# The benchmark: puts hard questions to the proved program and to a hand-tuned C program of the same search, holds their replies to be the
+# same, and prints the time of each and the ratio. A measurement, not a test. It needs the kit (rt) and a Debian C compiler; on a machine
+# that is not x86-64 both programs run under the kit's emulator, and the compiler is Debian's cross compiler for x86-64.
+set -eu
+cd "$(dirname "$0")/.."
+bench=$PWD/bench
+room=$PWD/target/bench
+
+# The program `asked` is proved and built in a repository of its own, so that the gate has nothing to do with it; its files are kept under
+# names that end in .txt because the gate refuses a Rattle file that stands in no listed crate.
+mkdir -p "$room"
+rm -rf "$room/crates"
+cp -R crates "$room/crates"
+{ cat crates.txt; echo "asked: absences crews roster io libc"; } >"$room/crates.txt"
+(cd bench && find asked -name '*.txt') | while IFS= read -r file; do
+    mkdir -p "$room/crates/$(dirname "$file")"
+    cp "bench/$file" "$room/crates/${file%.txt}"
+done
+cd "$room"
+rt check asked >check.log 2>&1 || { cut -c1-400 check.log; exit 1; }
+
+machine=$(uname -m) run=() cc=gcc
+if [ "$machine" != x86_64 ]; then
+    tools=$(dirname "$(dirname "$(readlink -f "$(command -v rt)")")")/on/$machine/toolchain
+    run=("$tools/bin/qemu-x86_64" "$tools/lib/ld-linux-x86-64.so.2" --library-path "$tools/lib")
+    cc=x86_64-linux-gnu-gcc
+fi
+"$cc" -O3 -march=x86-64 -Wall -Wextra -o baseline "$bench/baseline.c"
+gcc -O2 -Wall -Wextra -o cases "$bench/cases.c"
+
+# The shortest of five runs of PROGRAM on the case, in milliseconds, into `took`; its reply is left in PROGRAM.said.
+measure() { # PROGRAM
+    took=
+    for _ in 1 2 3 4 5; do
+        local began=$(date +%s%N)
+        "${run[@]}" "$1" <case >"$(basename "$1").said"
+        local ms=$((($(date +%s%N) - began) / 1000000))
+        if [ -z "$took" ] || [ "$ms" -lt "$took" ]; then took=$ms; fi
+    done
+}
+
+# One case, described to `cases` by the words that follow its name; the bar is the ratio that it is held against.
+compare() { # BAR NAME WORDS...
+    local bar=$1 name=$2
+    shift 2
+    ./cases "$@" >case
+    measure ./baseline
+    local c=$took
+    measure target/bin/asked
+    if ! cmp -s baseline.said asked.said; then
+        echo "$name: the replies differ"
+        cat baseline.said asked.said
+        exit 1
+    fi
+    local ratio=$((took * 100 / (c > 0 ? c : 1))) verdict units
+    read -r verdict units _ <asked.said
+    printf '%-34s %-9s %8d units x %-5d %6d ms  C %6d ms  ratio %d.%02d (bar %d)\n' "$name" "${words[verdict]}" "$units" "${!#}" "$took" "$c" $((ratio / 100)) $((ratio % 100)) "$bar"
+}
+words=(yes no undecided crews none refused)
+
+# seed, rows, permissions, chance of holding each in 100, policy question?, s, d, t, times
+compare 3 "filling, 60 rows, d 8, t 4" 38 60 10 15 0 0 8 4 20
+compare 3 "filling, 60 rows, d 8, t 3" 15 60 10 25 0 0 8 3 20
+compare 3 "filling, 60 rows, d 8, t 5" 141 60 10 20 0 0 8 5 20
+compare 3 "filling, 60 rows, d 8, no limit" 368 60 10 25 0 0 8 64 20
+compare 8 "policy, 64 equal rows, s 16, d 1" 1 64 10 100 1 16 1 64 20000
+compare 8 "policy, 60 rows, s 6, d 2, t 4" 3 60 10 25 1 6 2 4 20
+compare 8 "policy, 60 rows, s 7, d 2, t 4" 61 60 10 25 1 7 2 4 20
+compare 8 "policy, 60 rows, s 8, d 2" 4 60 10 45 1 8 2 64 20

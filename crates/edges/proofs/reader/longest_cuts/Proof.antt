@@ -1,0 +1,29 @@
+-- The loop ends: a turn for each length that is left.
+use borrow.Author.Needs.{needs}
+use Prim.Native.Nat.{_≤_, _-_}
+use Rattle.edges.proofs.reader.longest_cuts.Statement.{statement}
+use Rattle.edges.proofs.reader.longest_cuts.Tie as tie
+
+abbrev Inv-loop : tie.InvT-loop
+Inv-loop book tally₀ length₀ tally length = length ≤ 803
+
+abbrev μ-loop : tie.MeasureT-loop
+μ-loop book tally₀ length₀ tally length = 803 - length
+
+pub longest-cuts-spec : {M : Type 1} → statement M
+longest-cuts-spec =
+    tie.close
+    (tie.spec
+    Inv-loop
+    μ-loop
+    (λ c κs. search needs)
+    (λ c κs. search needs)
+    (λ c. search needs)
+    (λ c κs. search needs)
+    (λ c κs. search needs)
+    (λ c κs. search needs)
+    (λ c κs. search needs)
+    (λ c. search needs)
+    (λ c. search needs)
+    (λ c. search needs)
+    (λ c. search needs))

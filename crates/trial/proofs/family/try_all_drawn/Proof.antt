@@ -1,0 +1,28 @@
+-- The loop ends: a turn for each that is left.
+use borrow.Author.Needs.{needs}
+use Prim.Native.Nat.{_≤_, _-_}
+use Rattle.trial.proofs.family.try_all_drawn.Statement.{statement}
+use Rattle.trial.proofs.family.try_all_drawn.Tie as tie
+
+abbrev Inv-loop : tie.InvT-loop
+Inv-loop now₀ a₀ counter₀ now a counter = counter ≤ 6000
+
+abbrev μ-loop : tie.MeasureT-loop
+μ-loop now₀ a₀ counter₀ now a counter = 6000 - counter
+
+pub try-all-drawn-spec : {M : Type 1} → statement M
+try-all-drawn-spec =
+    tie.close
+    (tie.spec
+    Inv-loop
+    μ-loop
+    (λ c. search needs)
+    (λ c κs. search needs)
+    (λ c κs. search needs)
+    (λ c κs. search needs)
+    (λ c κs. search needs)
+    (λ c κs. search needs)
+    (λ c. search needs)
+    (λ c. search needs)
+    (λ c. search needs)
+    (λ c. search needs))

@@ -1,0 +1,302 @@
+// The questions that are asked, and the tables they are asked about.
+use crate::compare;
+use crate::compare::Counts;
+use crate::known;
+use crate::known::Known;
+use crate::known::SETS;
+use crate::plain::Duty;
+use crate::plain::PERMISSIONS;
+use crate::plain::ROWS;
+use roster::Policy;
+use roster::Reply;
+use roster::Table;
+ghost use Prim.Native.Nat.{_<_};
+
+// More than any need here.
+const AMPLE: u32 = 4294967295;
+
+// As many numbers as `try_small` takes apart: 512 holdings, 4 row counts, 7 tasks, 4 values of d and 4 of t.
+const SMALL: usize = 229376;
+
+// As many tables are drawn.
+const DRAWN: usize = 6000;
+
+// A duty as the libraries are asked about it.
+pub struct Asked {
+    pub table: Table,
+    pub task: u32,
+    pub crews: usize,
+    pub size: u32,
+}
+
+// Where a permission stands in a row's holdings: in its own place, or spread over the whole width.
+fn bit_of(spread: bool, p: usize) -> u32 {
+    if p >= PERMISSIONS {
+        return 0;
+    }
+    if spread {
+        1u32 << (p * 5 + 3)
+    } else {
+        1u32 << p
+    }
+}
+
+// The row's holdings as the libraries have them.
+fn holdings_of(duty: Duty, spread: bool, row: usize) -> u32 {
+    let mut holdings: u32 = 0;
+    for p in 0..PERMISSIONS {
+        if duty.holds(row, p) {
+            holdings = holdings | bit_of(spread, p);
+        }
+    }
+    holdings
+}
+
+fn task_of(duty: Duty, spread: bool) -> u32 {
+    let mut task: u32 = 0;
+    for p in 0..PERMISSIONS {
+        if duty.wants(p) {
+            task = task | bit_of(spread, p);
+        }
+    }
+    task
+}
+
+// The table as the libraries have it. Holdings outside the task and past the row count play no part: noise stands there.
+fn table_of(duty: Duty, spread: bool, noise: u32) -> Table {
+    let task = task_of(duty, spread);
+    let mut holdings = [noise; Policy::ROWS];
+    for row in 0..ROWS {
+        if row < duty.rows {
+            holdings[row] = holdings_of(duty, spread, row) | (noise & !task);
+        }
+    }
+    Table {
+        holdings: holdings,
+        rows: duty.rows,
+    }
+}
+
+// A crew's size as the libraries have it.
+fn size_of(size: usize) -> u32 {
+    if size < 64 { size as u32 } else { 64 }
+}
+
+pub fn asked_of(duty: Duty, spread: bool, noise: u32) -> Asked {
+    Asked {
+        table: table_of(duty, spread, noise),
+        task: task_of(duty, spread),
+        crews: duty.crews,
+        size: size_of(duty.size),
+    }
+}
+
+pub fn ask_policy(asked: Asked, skipping: bool, away: u32, allowance: u32) -> Reply {
+    let table = asked.table;
+    if skipping {
+        absences::ask_skipping(table, asked.task, away, asked.crews, asked.size, allowance)
+    } else {
+        absences::ask_full(table, asked.task, away, asked.crews, asked.size, allowance)
+    }
+}
+
+pub fn ask_named(asked: Asked, absent: u64, allowance: u32) -> Reply {
+    let table = asked.table;
+    crews::ask_named(
+        table,
+        asked.task,
+        asked.crews,
+        asked.size,
+        absent,
+        allowance,
+    )
+}
+
+// One policy question of one search: with an ample allowance, with the need, and with one unit less.
+fn try_search(
+    counts: Counts,
+    known: Known,
+    duty: Duty,
+    asked: Asked,
+    skipping: bool,
+    away: usize,
+) -> Counts {
+    let wanted = known.policy_reply(duty, skipping, away);
+    let s = size_of(away);
+    let need = wanted.units;
+    let short = std::num::wrapping_sub_u32(need, 1);
+    let ample = compare::policy(counts, wanted, ask_policy(asked, skipping, s, AMPLE));
+    let exact = compare::allowed(ample, wanted, need, ask_policy(asked, skipping, s, need));
+    compare::allowed(exact, wanted, short, ask_policy(asked, skipping, s, short))
+}
+
+// One policy question, by both searches.
+fn try_policy(counts: Counts, known: Known, duty: Duty, asked: Asked, away: usize) -> Counts {
+    let s = size_of(away);
+    let skipped = try_search(counts, known, duty, asked, true, away);
+    let searched = try_search(skipped, known, duty, asked, false, away);
+    compare::both(
+        searched,
+        ask_policy(asked, true, s, AMPLE),
+        ask_policy(asked, false, s, AMPLE),
+    )
+}
+
+// The question for the absence with this number: with an ample allowance, with the need, and with one unit less if it needs any.
+fn try_named(counts: Counts, known: Known, duty: Duty, asked: Asked, number: usize) -> Counts {
+    let wanted = known::named_reply(known, duty, number);
+    let absent = known::mask_of(known::set_of(number));
+    let need = wanted.units;
+    let ample = compare::named(counts, wanted, ask_named(asked, absent, AMPLE));
+    let exact = compare::allowed(ample, wanted, need, ask_named(asked, absent, need));
+    if need == 0 {
+        return exact;
+    }
+    compare::allowed(exact, wanted, need - 1, ask_named(asked, absent, need - 1))
+}
+
+// The question for each absence, and filling held against trying everything.
+fn try_absences(counts: Counts, known: Known, duty: Duty, asked: Asked) -> Counts {
+    let mut now = counts;
+    for number in 0..SETS {
+        if number < known.sets {
+            now = compare::filling(now, known.found[number], known.blocks[number]);
+            now = try_named(now, known, duty, asked, number);
+        }
+    }
+    now
+}
+
+// Each number of people away up to 4.
+fn try_away(counts: Counts, known: Known, duty: Duty, asked: Asked) -> Counts {
+    let mut now = counts;
+    for away in 0..5 {
+        now = try_policy(now, known, duty, asked, away);
+    }
+    now
+}
+
+// Cells of the three permissions of up to three rows from a number below 512: three binary digits a row.
+fn small_cells(number: usize) -> [bool; 36] {
+    let mut cells = [false; 36];
+    let mut left = number;
+    for i in 0..9 {
+        cells[i / 3 * 6 + i % 3] = left % 2 == 1;
+        left = left / 2;
+    }
+    cells
+}
+
+// The task from a number: its binary digits.
+fn small_task(number: usize) -> [bool; PERMISSIONS] {
+    let mut task = [false; PERMISSIONS];
+    let mut left = number;
+    for p in 0..PERMISSIONS {
+        task[p] = left % 2 == 1;
+        left = left / 2;
+    }
+    task
+}
+
+// How many tables of three permissions so many rows make.
+fn small_tables(rows: usize) -> usize {
+    match rows {
+        0 => 1,
+        1 => 8,
+        2 => 64,
+        _ => 512,
+    }
+}
+
+// One duty of the small ones: the number's digits, to changing bases, say the holdings, the row count, the task, d and t.
+fn try_small(counts: Counts, number: usize) -> Counts {
+    let rows = number / 512 % 4;
+    if number % 512 >= small_tables(rows) {
+        return counts;
+    }
+    let duty = Duty {
+        rows: rows,
+        cells: small_cells(number % 512),
+        task: small_task(number / 2048 % 7 + 1),
+        crews: number / 14336 % 4 + 1,
+        size: number / 57344 % 4 + 1,
+    };
+    let asked = asked_of(duty, false, AMPLE);
+    let known = known::known_of(duty);
+    try_away(try_absences(counts, known, duty, asked), known, duty, asked)
+}
+
+// All tables of up to 3 rows and 3 permissions, with every task, d and t from 1 to 4, and s from 0 to 4.
+pub fn try_all_small(counts: Counts) -> Counts {
+    let mut now = counts;
+    for number in 0..SMALL {
+        now = try_small(now, number);
+    }
+    now
+}
+
+// The next of a fixed row of numbers that look random (xorshift).
+fn next(state: u64) -> u64 {
+    let a = state ^ (state << 13);
+    let b = a ^ (a >> 7);
+    b ^ (b << 17)
+}
+
+// Cells from a number's binary digits.
+fn drawn_cells(number: u64) -> [bool; 36] {
+    let mut cells = [false; 36];
+    let mut left = number;
+    for i in 0..36 {
+        cells[i] = left % 2 == 1;
+        left = left / 2;
+    }
+    cells
+}
+
+// The number's last digit to this base, which is at most 64.
+fn digit(number: u64, base: u64) -> usize
+    ensures { λ r. ⌜ r < 64 ⌝ }
+{
+    if base == 0 {
+        return 0;
+    }
+    let last = (number % base) as usize;
+    if last < 64 { last } else { 0 }
+}
+
+// One table of 4 to 6 rows with one policy, from four drawn numbers. A row holds a permission with one chance in two, in most tables with
+// three in four: where little is held, nearly everything blocks.
+fn try_drawn(counts: Counts, a: u64, b: u64, c: u64, d: u64) -> Counts {
+    let cells = if c % 4 == 0 { a } else { a | b };
+    let size = digit(c / 64, 5);
+    let duty = Duty {
+        rows: 4 + digit(c / 1024, 3),
+        cells: drawn_cells(cells),
+        task: small_task(1 + digit(d, 63)),
+        crews: 1 + digit(d / 64, 4),
+        size: if size == 0 { 64 } else { size },
+    };
+    let asked = asked_of(duty, true, (d / 65536 % 4294967296) as u32);
+    let known = known::known_of(duty);
+    try_policy(
+        try_absences(counts, known, duty, asked),
+        known,
+        duty,
+        asked,
+        digit(d / 1024, 5),
+    )
+}
+
+// Tables of 4 to 6 rows, drawn by a fixed row of numbers.
+pub fn try_all_drawn(counts: Counts) -> Counts {
+    let mut now = counts;
+    let mut a: u64 = 88172645463325252;
+    for _ in 0..DRAWN {
+        let b = next(a);
+        let c = next(b);
+        let d = next(c);
+        now = try_drawn(now, a, b, c, d);
+        a = next(d);
+    }
+    now
+}

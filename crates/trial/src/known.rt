@@ -1,0 +1,306 @@
+// What is known of every set of rows as an absence, and from that what a reply has to be. Blocking is known by trying everything; need and
+// crews by the plain rules of filling and of the order of absences.
+use crate::brute;
+use crate::plain;
+use crate::plain::Duty;
+use crate::plain::Placed;
+use crate::plain::ROWS;
+use crate::plain::Ranks;
+use crate::plain::after;
+ghost use Prim.Native.Nat.{_≤_};
+
+// Six rows have 64 sets. A set's number has the digit 1, in base 2, for each of its rows.
+pub const SETS: usize = 64;
+
+// Crews of a reply.
+pub const LISTED: usize = 8;
+
+// For each set by its number: how many rows it has, whether it blocks, whether filling found a list and after how many placements, whether
+// it is worth trying. `order` has the numbers in the order of absences.
+pub struct Known {
+    pub sets: usize,
+    pub size: [usize; SETS],
+    pub blocks: [bool; SETS],
+    pub found: [bool; SETS],
+    pub units: [u32; SETS],
+    pub worth: [bool; SETS],
+    pub order: [usize; SETS],
+}
+
+// What a reply has to be. The verdict is its code.
+pub struct Wanted {
+    pub verdict: usize,
+    pub crews: [u64; LISTED],
+    pub blocker: u64,
+    pub units: u32,
+}
+
+// The codes of verdicts.
+pub const YES: usize = 0;
+
+pub const NO: usize = 1;
+
+pub const UNDECIDED: usize = 2;
+
+pub const CREWS: usize = 3;
+
+pub const NONE: usize = 4;
+
+pub const REFUSED: usize = 5;
+
+// How many sets so many rows have.
+pub fn sets_of(rows: usize) -> usize
+    ensures { λ r. ⌜ r ≤ 64 ⌝ }
+{
+    match rows {
+        0 => 1,
+        1 => 2,
+        2 => 4,
+        3 => 8,
+        4 => 16,
+        5 => 32,
+        _ => 64,
+    }
+}
+
+// The set with this number.
+pub fn set_of(number: usize) -> [bool; ROWS] {
+    let mut set = [false; ROWS];
+    let mut left = number;
+    for row in 0..ROWS {
+        set[row] = left % 2 == 1;
+        left = left / 2;
+    }
+    set
+}
+
+// The row as a set of the libraries, which has bit i for row i.
+fn one(row: usize) -> u64 {
+    if row < ROWS { 1u64 << row } else { 0 }
+}
+
+// The set as one of the libraries.
+pub fn mask_of(set: [bool; ROWS]) -> u64 {
+    let mut mask: u64 = 0;
+    for row in 0..ROWS {
+        if set[row] {
+            mask = mask | one(row);
+        }
+    }
+    mask
+}
+
+// The crew as a set of the libraries.
+fn crew_mask(placed: Placed, crew: usize) -> u64 {
+    let mut mask: u64 = 0;
+    for k in 0..ROWS {
+        if placed.in_crew(k, crew) {
+            mask = mask | one(placed.row_at(k));
+        }
+    }
+    mask
+}
+
+// The crews of a reply.
+pub fn crews_of(placed: Placed) -> [u64; LISTED] {
+    let mut crews = [0u64; LISTED];
+    for crew in 0..LISTED {
+        crews[crew] = crew_mask(placed, crew);
+    }
+    crews
+}
+
+// The ranks of the set with this number.
+fn list_of(ranks: [usize; ROWS], rows: usize, number: usize) -> Ranks {
+    plain::ranks_of(ranks, rows, set_of(number))
+}
+
+// How many absences come before the one with this number.
+fn place_of(ranks: [usize; ROWS], rows: usize, number: usize) -> usize {
+    let list = list_of(ranks, rows, number);
+    let sets = sets_of(rows);
+    let mut place: usize = 0;
+    for other in 0..sets {
+        if list_of(ranks, rows, other).earlier(list) {
+            place = after(place);
+        }
+    }
+    place
+}
+
+// The numbers in the order of absences.
+fn order_of(ranks: [usize; ROWS], rows: usize) -> [usize; SETS] {
+    let mut order = [0usize; SETS];
+    let sets = sets_of(rows);
+    for number in 0..sets {
+        let place = place_of(ranks, rows, number);
+        if place < SETS {
+            order[place] = number;
+        }
+    }
+    order
+}
+
+// All that is known for this duty.
+pub fn known_of(duty: Duty) -> Known {
+    let ranks = duty.ranks();
+    let sets = sets_of(duty.rows);
+    let mut size = [0usize; SETS];
+    let mut blocks = [false; SETS];
+    let mut found = [false; SETS];
+    let mut units = [0u32; SETS];
+    let mut worth = [false; SETS];
+    for number in 0..sets {
+        let absent = set_of(number);
+        let filled = duty.fill(absent);
+        size[number] = plain::ranks_of(ranks, duty.rows, absent).count;
+        blocks[number] = brute::blocks(duty, absent);
+        found[number] = filled.found && !filled.lost;
+        units[number] = filled.units;
+        worth[number] = duty.worth(absent);
+    }
+    let order = order_of(ranks, duty.rows);
+    Known {
+        sets: sets,
+        size: size,
+        blocks: blocks,
+        found: found,
+        units: units,
+        worth: worth,
+        order: order,
+    }
+}
+
+impl Known {
+    fn is_within(self, number: usize, away: usize) -> bool {
+        if number >= SETS {
+            return false;
+        }
+        self.size[number] <= away
+    }
+
+    fn is_blocking(self, number: usize) -> bool {
+        if number >= SETS {
+            return false;
+        }
+        self.blocks[number]
+    }
+
+    // The number of the first absence of at most `away` rows that blocks, the earliest of all that do; SETS where none does.
+    pub fn first_blocker(self, duty: Duty, away: usize) -> usize {
+        let ranks = duty.ranks();
+        let rows = duty.rows;
+        let mut best: usize = SETS;
+        for number in 0..SETS {
+            if number < self.sets && self.is_within(number, away) && self.is_blocking(number) {
+                if best == SETS
+                    || list_of(ranks, rows, number).earlier(list_of(ranks, rows, best))
+                {
+                    best = number;
+                }
+            }
+        }
+        best
+    }
+
+    // The units of the absence at this place of the order, if it is tried: one and its placements.
+    fn units_at(self, place: usize, skipping: bool, away: usize) -> u32 {
+        let number = self.number_at(place);
+        if number >= SETS {
+            return 0;
+        }
+        if self.size[number] > away {
+            return 0;
+        }
+        if skipping && !self.worth[number] {
+            return 0;
+        }
+        std::num::wrapping_add_u32(1, self.units[number])
+    }
+
+    // The number at this place of the order; SETS past the last.
+    fn number_at(self, place: usize) -> usize {
+        if place >= SETS {
+            return SETS;
+        }
+        if place >= self.sets {
+            return SETS;
+        }
+        self.order[place]
+    }
+
+    // Whether the absence at this place is tried and filling finds no list for it.
+    fn ends_at(self, place: usize, skipping: bool, away: usize) -> bool {
+        let number = self.number_at(place);
+        if number >= SETS {
+            return false;
+        }
+        self.size[number] <= away && (!skipping || self.worth[number]) && !self.found[number]
+    }
+
+    // The need of the policy question: the units of the absences tried, up to and including the first that blocks.
+    pub fn need(self, skipping: bool, away: usize) -> u32 {
+        let mut need: u32 = 0;
+        for place in 0..SETS {
+            need = std::num::wrapping_add_u32(need, self.units_at(place, skipping, away));
+            if self.ends_at(place, skipping, away) {
+                return need;
+            }
+        }
+        need
+    }
+
+    // What a policy question has to reply.
+    pub fn policy_reply(self, duty: Duty, skipping: bool, away: usize) -> Wanted {
+        let need = self.need(skipping, away);
+        let blocker = self.first_blocker(duty, away);
+        if blocker < SETS {
+            return Wanted {
+                verdict: NO,
+                crews: [0; LISTED],
+                blocker: mask_of(set_of(blocker)),
+                units: need,
+            };
+        }
+        Wanted {
+            verdict: YES,
+            crews: crews_of(duty.fill([false; ROWS]).placed),
+            blocker: 0,
+            units: need,
+        }
+    }
+}
+
+// What a question for the absence with this number has to reply: whether there is a list by trying everything, which by filling.
+pub fn named_reply(known: Known, duty: Duty, number: usize) -> Wanted {
+    let filled = duty.fill(set_of(number));
+    if known.is_blocking(number) {
+        return Wanted {
+            verdict: NONE,
+            crews: [0; LISTED],
+            blocker: 0,
+            units: filled.units,
+        };
+    }
+    Wanted {
+        verdict: CREWS,
+        crews: crews_of(filled.placed),
+        blocker: 0,
+        units: filled.units,
+    }
+}
+
+impl Wanted {
+    // What has to be replied within an allowance.
+    pub fn within(self, allowance: u32) -> Wanted {
+        if allowance < self.units {
+            return Wanted {
+                verdict: UNDECIDED,
+                crews: [0; LISTED],
+                blocker: 0,
+                units: allowance,
+            };
+        }
+        self
+    }
+}
