@@ -9,7 +9,7 @@ use Rattle.roster.specs.Limits.{rowLimit}
 use Rattle.roster.specs.declared.Policy.{Policy}
 use Rattle.roster.specs.declared.Reply.{Reply}
 use Rattle.crews.specs.Filled.{tabulate}
-use Rattle.absences.specs.Tried.{skipping}
+use Rattle.absences.specs.Tried.{Way, skipping}
 use Rattle.absences.specs.Replied.{policyReplyOf}
 use Rattle.book.specs.Faults.{faultNumber}
 use Rattle.book.specs.Reading.{readOf}
@@ -38,8 +38,11 @@ unfoldable pub staffOf : List ℕ → List ℕ
 staffOf book = tabulate rowLimit (λ row. staffOr0 (staffAt book (startsIn book .rows) row))
 
 -- "asks by the search that skips"
+abbrev pub way : Way
+way = skipping
+
 unfoldable pub replyTo : List ℕ → Policy → Reply
-replyTo book p = policyReplyOf skipping (tableOf book) (p .task) (p .away) (p .crews) (p .size) allowance
+replyTo book p = policyReplyOf way (tableOf book) (p .task) (p .away) (p .crews) (p .size) allowance
 
 -- the line of the policy with this index
 unfoldable pub lineBy : List ℕ → ℕ → Listed → List ℕ

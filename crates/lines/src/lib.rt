@@ -14,13 +14,12 @@ ghost use mathlib.Core.List.{List, [], _∷_};
 ghost use Prim.Native.Nat.{_<_, _^_};
 ghost use lib.ListN.{length};
 ghost use Rattle.roster.specs.Limits.{crewLimit};
-ghost use Rattle.absences.specs.Tried.{skipping};
 ghost use Rattle.absences.specs.Asked.{PolicyReply};
 ghost use Rattle.absences.specs.Replied.{policyReplyOf};
 ghost use Rattle.book.specs.Parts.{staffAt, tableOf, policyCount, policyAt};
 ghost use Rattle.lines.specs.Text.{Room, Appended, space};
 ghost use Rattle.lines.specs.Lines.{verdictWord, setsText, lineOf, badLine};
-ghost use Rattle.lines.specs.Sheet.{allowance, staffOr0, staffOf, lineBy, linesFrom, longest, Promised};
+ghost use Rattle.lines.specs.Sheet.{allowance, way, staffOr0, staffOf, lineBy, linesFrom, longest, Promised};
 
 // No sheet is longer: 32 lines of at most 726 bytes each.
 pub const LONGEST: usize = 23232;
@@ -113,7 +112,7 @@ fn all_staff(book: &[u8]) -> [u32; Policy::ROWS]
 
 // The reply to a policy, by the search that skips and with the whole allowance.
 fn reply_of(table: Table, task: u32, away: u32, crews: usize, size: u32) -> Reply
-    ensures { λ r. ⌜ PolicyReply skipping table task away crews size allowance r ⌝ }
+    ensures { λ r. ⌜ PolicyReply way table task away crews size allowance r ⌝ }
 {
     absences::ask_skipping(table, task, away, crews, size, ALLOWANCE)
 }
@@ -130,8 +129,8 @@ fn asked(
     crews: usize,
     size: u32,
 ) -> usize
-    requires { ⌜ Room (lineOf (now staff) index (policyReplyOf skipping table task away crews size allowance)) (now out) at ⌝ }
-    ensures { λ r. ⌜ Appended (lineOf (now (staff .entry)) index (policyReplyOf skipping table task away crews size allowance)) (now (out .entry)) at (now (out .exit)) r ⌝ }
+    requires { ⌜ Room (lineOf (now staff) index (policyReplyOf way table task away crews size allowance)) (now out) at ⌝ }
+    ensures { λ r. ⌜ Appended (lineOf (now (staff .entry)) index (policyReplyOf way table task away crews size allowance)) (now (out .entry)) at (now (out .exit)) r ⌝ }
 {
     let reply = reply_of(table, task, away, crews, size);
     line(out, at, staff, index, reply)

@@ -6,40 +6,39 @@ use Rattle.roster.specs.Limits.{crewLimit}
 use Rattle.roster.specs.declared.Table.{Table}
 use Rattle.roster.specs.declared.Reply.{Reply}
 use Rattle.crews.specs.Laws.Exact.{crews-eight}
-use Rattle.absences.specs.Tried.{skipping}
 use Rattle.absences.specs.Asked.{PolicyReply}
 use Rattle.absences.specs.Replied.{policyReplyOf}
 use Rattle.absences.specs.Laws.Decided.{Case, is-refused, is-undecided, is-yes, is-no, policy-case}
 use Rattle.absences.specs.Laws.Demands.{policy-same, policy-allowed}
 use Rattle.lines.specs.Lines.{lineOf}
-use Rattle.lines.specs.Sheet.{allowance}
+use Rattle.lines.specs.Sheet.{allowance, way}
 use Rattle.lines.proofs.Appends.{read-as, room-as}
 use borrow.Author.Needs.{needs}
 use Rattle.lines.proofs.asked.Statement.{statement}
 use Rattle.lines.proofs.asked.Tie as tie
 
-module _ (table : Table) (P s d t : ℕ) (wide : P < 2 ^ 32) (r : Reply) (may : PolicyReply skipping table P s d t allowance r) where
+module _ (table : Table) (P s d t : ℕ) (wide : P < 2 ^ 32) (r : Reply) (may : PolicyReply way table P s d t allowance r) where
   -- "Crews are eight sets"
   eight : length (r .crews) ≡ crewLimit
-  eight = go (policy-case skipping table P s d t wide allowance)
+  eight = go (policy-case way table P s d t wide allowance)
     where
-      go : Case skipping table P s d t allowance → length (r .crews) ≡ crewLimit
+      go : Case way table P s d t allowance → length (r .crews) ≡ crewLimit
       go (is-refused refusal e) = ap (λ (q : Reply). length (q .crews)) (may .refused refusal e)
       go (is-undecided e l) = ap (λ (q : Reply). length (q .crews)) (may .undecided e l)
       go (is-yes e l h) = ap (λ (q : Reply). length (q .crews)) (may .yes e l h) ∙ crews-eight table P d t 0
       go (is-no e l A f) = ap (λ (q : Reply). length (q .crews)) (may .no e l A f)
 
   -- no other reply is allowed
-  only : r ≡ policyReplyOf skipping table P s d t allowance
+  only : r ≡ policyReplyOf way table P s d t allowance
   only =
-      policy-same skipping table P s d t wide allowance r (policyReplyOf skipping table P s d t allowance) may
-      (policy-allowed skipping table P s d t wide allowance)
+      policy-same way table P s d t wide allowance r (policyReplyOf way table P s d t allowance) may
+      (policy-allowed way table P s d t wide allowance)
 
 -- the reply and the line at the place where the search has answered
 answered : (c : tie.After-reply-of)
     → let a = c .before .before .args in
     lineOf (a .staff .now) (a .index) (c .reply-of .result)
-    ≡ lineOf (a .staff .now) (a .index) (policyReplyOf skipping (a .table) (a .task) (a .away) (a .crews) (a .size) allowance)
+    ≡ lineOf (a .staff .now) (a .index) (policyReplyOf way (a .table) (a .task) (a .away) (a .crews) (a .size) allowance)
 answered c =
     let s = c .before .before in
     let a = s .args in

@@ -4,13 +4,12 @@ use mathlib.Core.List.{List, []}
 use Prim.Native.Nat.{ℕ}
 use Rattle.roster.specs.declared.Policy.{Policy}
 use Rattle.roster.specs.declared.Table.{Table}
-use Rattle.absences.specs.Tried.{skipping}
 use Rattle.absences.specs.Replied.{policyReplyOf}
 use Rattle.book.specs.Parts.{tableOf, policyAt}
 use Rattle.book.specs.declared.Listed.{Listed}
 use Rattle.book.specs.declared.Listed.the-variants as listed
 use Rattle.lines.specs.Lines.{lineOf}
-use Rattle.lines.specs.Sheet.{allowance, staffOf, replyTo, lineBy}
+use Rattle.lines.specs.Sheet.{allowance, way, staffOf, replyTo, lineBy}
 use Rattle.lines.proofs.Appends.{none, read-as, room-as}
 use borrow.Author.Needs.{needs}
 use Rattle.lines.proofs.policy_line.Statement.{statement}
@@ -18,11 +17,11 @@ use Rattle.lines.proofs.policy_line.Tie as tie
 
 there : (book : List ℕ) (index : ℕ) (staff : List ℕ) (table : Table) (p : Policy) (l : Listed) → staff ≡ staffOf book → table ≡ tableOf book
     → l ≡ policyAt book index → l ≡ listed.Policy p
-    → lineBy book index (policyAt book index) ≡ lineOf staff index (policyReplyOf skipping table (p .task) (p .away) (p .crews) (p .size) allowance)
+    → lineBy book index (policyAt book index) ≡ lineOf staff index (policyReplyOf way table (p .task) (p .away) (p .crews) (p .size) allowance)
 unfolding lineBy replyTo
 there book index staff table p l s t e f =
     ap (lineBy book index) (sym e ∙ f)
-    ∙ ap₂ (λ (x : List ℕ) (y : Table). lineOf x index (policyReplyOf skipping y (p .task) (p .away) (p .crews) (p .size) allowance)) (sym s) (sym t)
+    ∙ ap₂ (λ (x : List ℕ) (y : Table). lineOf x index (policyReplyOf way y (p .task) (p .away) (p .crews) (p .size) allowance)) (sym s) (sym t)
 
 missing : (book : List ℕ) (index : ℕ) (l : Listed) → l ≡ policyAt book index → l ≡ listed.NoSuchPolicy → [] ≡ lineBy book index (policyAt book index)
 unfolding lineBy
@@ -33,7 +32,7 @@ line-there : (c : tie.After-policy)
     → let a = c .before .before .before .before .before .args in
     let p = c .policy .given .0 .0 in
     lineBy (a .book .now) (a .index) (policyAt (a .book .now) (a .index))
-    ≡ lineOf (a .staff .now) (a .index) (policyReplyOf skipping (a .table) (p .task) (p .away) (p .crews) (p .size) allowance)
+    ≡ lineOf (a .staff .now) (a .index) (policyReplyOf way (a .table) (p .task) (p .away) (p .crews) (p .size) allowance)
 line-there c =
     let s = c .before .before .before .before .before in
     let a = s .args in

@@ -22,7 +22,6 @@ use Rattle.crews.specs.Named.{firstList}
 use Rattle.crews.specs.Filled.{tabulate}
 use Rattle.crews.specs.Laws.Arrays.{at-tabulate, at-past}
 use Rattle.crews.specs.Laws.Exact.{crews-past}
-use Rattle.absences.specs.Tried.{skipping}
 use Rattle.absences.specs.Asked.{PolicyReply}
 use Rattle.absences.specs.Replied.{policyReplyOf}
 use Rattle.absences.specs.Laws.Decided.{Case, is-refused, is-undecided, is-yes, is-no, admitted-fair, policy-case}
@@ -53,7 +52,7 @@ use Rattle.book.specs.declared.Place.{Place}
 use Rattle.book.specs.declared.Place.the-variants as place
 use Rattle.lines.specs.Text.{comma, slash, decimal, marked, joined}
 use Rattle.lines.specs.Lines.{verdictWord, names, setText, filled, crewsText, setsText, lineOf, badLine}
-use Rattle.lines.specs.Sheet.{allowance, staffOr0, staffOf, replyTo, lineBy, linesFrom, sheetBy, sheetOf, longest}
+use Rattle.lines.specs.Sheet.{allowance, way, staffOr0, staffOf, replyTo, lineBy, linesFrom, sheetBy, sheetOf, longest}
 use Rattle.lines.specs.Laws.Decimal.{decimal-length}
 use Rattle.lines.specs.Laws.More.{onesOf, Disjoint, disjoint-few}
 
@@ -156,20 +155,20 @@ module _ (table : Table) (P d t A : ℕ) (rows : table .rows ≤ 64) (list : Cre
       go (no a) = omega (arith, crews-past table P d t A j (omega arith))
 
 module _ (staff : List ℕ) (fits : (row : ℕ) → getD staff row 0 < 2 ^ 32) (index : ℕ) (early : index < 100) where
-  reply-line : (table : Table) (P s d t : ℕ) → P < 2 ^ 32 → length (lineOf staff index (policyReplyOf skipping table P s d t allowance)) ≤ 726
+  reply-line : (table : Table) (P s d t : ℕ) → P < 2 ^ 32 → length (lineOf staff index (policyReplyOf way table P s d t allowance)) ≤ 726
   unfolding setsText
-  reply-line table P s d t wide = go (policy-case skipping table P s d t wide allowance)
+  reply-line table P s d t wide = go (policy-case way table P s d t wide allowance)
     where
       r : Reply
-      r = policyReplyOf skipping table P s d t allowance
+      r = policyReplyOf way table P s d t allowance
 
-      may : PolicyReply skipping table P s d t allowance r
-      may = policy-allowed skipping table P s d t wide allowance
+      may : PolicyReply way table P s d t allowance r
+      may = policy-allowed way table P s d t wide allowance
 
       by : {q : Reply} → r ≡ q → q .units ≤ allowance → length (setsText staff q (q .verdict)) ≤ 704 → length (lineOf staff index r) ≤ 726
       by {q} e u l = subst (λ (x : Reply). length (lineOf staff index x) ≤ 726) (sym e) (line-length staff index q early u l)
 
-      go : Case skipping table P s d t allowance → length (lineOf staff index r) ≤ 726
+      go : Case way table P s d t allowance → length (lineOf staff index r) ≤ 726
       go (is-refused refusal e) = by (may .refused refusal e) (omega arith) (omega arith)
       go (is-undecided e l) = by (may .undecided e l) (omega arith) (omega arith)
       go (is-yes e l h) =
