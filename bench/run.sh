@@ -18,7 +18,7 @@ cp -R crates "$room/crates"
     cp "bench/$file" "$room/crates/${file%.txt}"
 done
 cd "$room"
-rt check asked >check.log 2>&1 || { cut -c1-400 check.log; exit 1; }
+rt check asked >check.log 2>&1 || { grep '^rt:' check.log; exit 1; }
 
 machine=$(uname -m) run=() cc=gcc
 if [ "$machine" != x86_64 ]; then
@@ -29,42 +29,44 @@ fi
 "$cc" -O3 -march=x86-64 -Wall -Wextra -o baseline "$bench/baseline.c"
 gcc -O2 -Wall -Wextra -o cases "$bench/cases.c"
 
-# The shortest of five runs of PROGRAM on the case, in milliseconds, into `took`; its reply is left in PROGRAM.said.
-measure() { # PROGRAM
-    took=
-    for _ in 1 2 3 4 5; do
-        local began=$(date +%s%N)
-        "${run[@]}" "$1" <case >"$(basename "$1").said"
-        local ms=$((($(date +%s%N) - began) / 1000000))
-        if [ -z "$took" ] || [ "$ms" -lt "$took" ]; then took=$ms; fi
-    done
+# The processor time of one run on the case, in milliseconds; the reply is left in the file REPLY.
+TIMEFORMAT=%U
+spent() { # PROGRAM REPLY
+    local seconds
+    seconds=$({ time "${run[@]}" "$1" <case >"$2"; } 2>&1)
+    echo $((10#${seconds/./}))
 }
 
-# One case, described to `cases` by the words that follow its name; the bar is the ratio that it is held against.
+# One case, described to `cases` by the words that follow its name: the shortest of nine runs of each program, taken in turn so that a busy
+# machine slows both. The bar is the ratio that it is held against.
+words=(yes no undecided crews none refused)
 compare() { # BAR NAME WORDS...
-    local bar=$1 name=$2
+    local bar=$1 name=$2 c='' ours='' now ratio verdict units
     shift 2
     ./cases "$@" >case
-    measure ./baseline
-    local c=$took
-    measure target/bin/asked
-    if ! cmp -s baseline.said asked.said; then
+    for _ in 1 2 3 4 5 6 7 8 9; do
+        now=$(spent ./baseline reply.c)
+        if [ -z "$c" ] || [ "$now" -lt "$c" ]; then c=$now; fi
+        now=$(spent target/bin/asked reply.ours)
+        if [ -z "$ours" ] || [ "$now" -lt "$ours" ]; then ours=$now; fi
+    done
+    if ! cmp -s reply.c reply.ours; then
         echo "$name: the replies differ"
-        cat baseline.said asked.said
+        cat reply.c reply.ours
         exit 1
     fi
-    local ratio=$((took * 100 / (c > 0 ? c : 1))) verdict units
-    read -r verdict units _ <asked.said
-    printf '%-34s %-9s %8d units x %-5d %6d ms  C %6d ms  ratio %d.%02d (bar %d)\n' "$name" "${words[verdict]}" "$units" "${!#}" "$took" "$c" $((ratio / 100)) $((ratio % 100)) "$bar"
+    ratio=$((ours * 100 / (c > 0 ? c : 1)))
+    read -r verdict units _ <reply.ours
+    printf '%-32s %-6s %8d units, %5d times: %5d ms, C %4d ms, ratio %d.%02d (bar %d)\n' \
+        "$name" "${words[verdict]}" "$units" "${!#}" "$ours" "$c" $((ratio / 100)) $((ratio % 100)) "$bar"
 }
-words=(yes no undecided crews none refused)
 
-# seed, rows, permissions, chance of holding each in 100, policy question?, s, d, t, times
-compare 3 "filling, 60 rows, d 8, t 4" 38 60 10 15 0 0 8 4 20
-compare 3 "filling, 60 rows, d 8, t 3" 15 60 10 25 0 0 8 3 20
-compare 3 "filling, 60 rows, d 8, t 5" 141 60 10 20 0 0 8 5 20
-compare 3 "filling, 60 rows, d 8, no limit" 368 60 10 25 0 0 8 64 20
-compare 8 "policy, 64 equal rows, s 16, d 1" 1 64 10 100 1 16 1 64 20000
-compare 8 "policy, 60 rows, s 6, d 2, t 4" 3 60 10 25 1 6 2 4 20
-compare 8 "policy, 60 rows, s 7, d 2, t 4" 61 60 10 25 1 7 2 4 20
-compare 8 "policy, 60 rows, s 8, d 2" 4 60 10 45 1 8 2 64 20
+# seed, rows, permissions, chance in 100 of holding each, policy question?, s, d, t, times
+compare 3 "filling, 60 rows, d 8, t 4" 38 60 10 15 0 0 8 4 10
+compare 3 "filling, 60 rows, d 8, t 3" 15 60 10 25 0 0 8 3 10
+compare 3 "filling, 60 rows, d 8, t 5" 141 60 10 20 0 0 8 5 10
+compare 3 "filling, 60 rows, d 8, no limit" 368 60 10 25 0 0 8 64 10
+compare 8 "policy, 64 equal rows, s 16, d 1" 1 64 10 100 1 16 1 64 10000
+compare 8 "policy, 60 rows, s 6, d 2, t 4" 3 60 10 25 1 6 2 4 10
+compare 8 "policy, 60 rows, s 7, d 2, t 4" 61 60 10 25 1 7 2 4 10
+compare 8 "policy, 60 rows, s 8, d 2" 4 60 10 45 1 8 2 64 10

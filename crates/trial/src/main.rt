@@ -12,34 +12,33 @@ mod planted;
 use compare::Counts;
 use compare::KINDS;
 
-fn name(kind: usize) {
+// Writes the kind's name, and answers whether all of it was written.
+fn name(kind: usize) -> bool {
     if kind == compare::VERDICT {
-        io::write_all(1, b"verdict");
+        return io::write_all(1, b"verdict");
     }
     if kind == compare::BLOCKER {
-        io::write_all(1, b"blocker");
+        return io::write_all(1, b"blocker");
     }
     if kind == compare::CREWS {
-        io::write_all(1, b"crews");
+        return io::write_all(1, b"crews");
     }
     if kind == compare::UNITS {
-        io::write_all(1, b"units");
+        return io::write_all(1, b"units");
     }
     if kind == compare::NAMED {
-        io::write_all(1, b"named absence");
+        return io::write_all(1, b"named absence");
     }
     if kind == compare::BOTH {
-        io::write_all(1, b"both searches");
+        return io::write_all(1, b"both searches");
     }
     if kind == compare::NEED {
-        io::write_all(1, b"need of skipping at most that of full");
+        return io::write_all(1, b"need of skipping at most that of full");
     }
     if kind == compare::ALLOWANCE {
-        io::write_all(1, b"allowance");
+        return io::write_all(1, b"allowance");
     }
-    if kind == compare::FILLING {
-        io::write_all(1, b"filling and trying everything");
-    }
+    io::write_all(1, b"filling and trying everything")
 }
 
 // "NAME: N compared, M differ", or of planted replies the same.
