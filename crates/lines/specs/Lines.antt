@@ -25,7 +25,7 @@ undecided = 117 ∷ 110 ∷ 100 ∷ 101 ∷ 99 ∷ 105 ∷ 100 ∷ 101 ∷ 100 �
 abbrev pub bad : List ℕ
 bad = 98 ∷ 97 ∷ 100 ∷ []
 
--- "the verdict". A policy of a good book is never refused, and `Crews` and `None` answer a named absence: none of the three is ever printed.
+-- "the verdict". A policy of a good book is never refused, and `Crews` and `None` answer a named absence: the three have no word of their own.
 unfoldable pub verdictWord : Verdict → List ℕ
 verdictWord Yes = yes
 verdictWord No = no

@@ -28,7 +28,7 @@ use Rattle.lines.specs.Lines.{lineOf, badLine}
 abbrev pub allowance : ℕ
 allowance = 1000000
 
--- a row that is not there has no number; none such is ever printed
+-- a row that is not there has no number, and counts as 0; replies name rows of the table only
 abbrev pub staffOr0 : Staff → ℕ
 staffOr0 (Number n) = n
 staffOr0 NoSuchRow = 0

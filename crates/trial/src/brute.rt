@@ -80,7 +80,7 @@ impl Ways {
 const WAYS: usize = 15625;
 
 // Whether no crew list exists with these rows absent: each way is looked at.
-pub fn blocks(duty: Duty, absent: [bool; ROWS]) -> bool {
+pub(crate) fn blocks(duty: Duty, absent: [bool; ROWS]) -> bool {
     let mut ways = Ways {
         place: [0; ROWS],
         over: false,

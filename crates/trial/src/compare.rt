@@ -37,7 +37,7 @@ pub struct Counts {
 }
 
 impl Counts {
-    pub fn none() -> Counts {
+    pub(crate) fn none() -> Counts {
         Counts {
             compared: [0; KINDS],
             differ: [0; KINDS],
@@ -46,7 +46,7 @@ impl Counts {
     }
 
     // One comparison more of this kind, a difference unless both sides are the same.
-    pub fn noted(self, kind: usize, same: bool) -> Counts {
+    pub(crate) fn noted(self, kind: usize, same: bool) -> Counts {
         let mut compared = self.compared;
         let mut differ = self.differ;
         let replied = self.replied;
@@ -79,7 +79,7 @@ impl Counts {
     }
 
     // How many comparisons of the kind found a difference.
-    pub fn found(self, kind: usize) -> u64 {
+    pub(crate) fn found(self, kind: usize) -> u64 {
         if kind >= KINDS {
             return 0;
         }
@@ -87,7 +87,7 @@ impl Counts {
     }
 
     // How many comparisons of the kind were made.
-    pub fn made(self, kind: usize) -> u64 {
+    pub(crate) fn made(self, kind: usize) -> u64 {
         if kind >= KINDS {
             return 0;
         }
@@ -95,7 +95,7 @@ impl Counts {
     }
 
     // How many replies had the verdict.
-    pub fn seen(self, verdict: usize) -> u64 {
+    pub(crate) fn seen(self, verdict: usize) -> u64 {
         if verdict >= VERDICTS {
             return 0;
         }
@@ -147,7 +147,7 @@ fn same(a: Wanted, b: Wanted) -> bool {
 }
 
 // A policy question's reply, part by part.
-pub fn policy(counts: Counts, wanted: Wanted, reply: Reply) -> Counts {
+pub(crate) fn policy(counts: Counts, wanted: Wanted, reply: Reply) -> Counts {
     let told = told(reply);
     let crews = told.crews;
     let right = wanted.crews;
@@ -160,20 +160,20 @@ pub fn policy(counts: Counts, wanted: Wanted, reply: Reply) -> Counts {
 }
 
 // A named absence's reply, whole.
-pub fn named(counts: Counts, wanted: Wanted, reply: Reply) -> Counts {
+pub(crate) fn named(counts: Counts, wanted: Wanted, reply: Reply) -> Counts {
     let told = told(reply);
     counts.saw(told.verdict).noted(NAMED, same(told, wanted))
 }
 
 // The replies of the two searches with each other.
-pub fn both(counts: Counts, skipping: Reply, full: Reply) -> Counts {
+pub(crate) fn both(counts: Counts, skipping: Reply, full: Reply) -> Counts {
     counts
         .noted(BOTH, same_answer(told(skipping), told(full)))
         .noted(NEED, skipping.units <= full.units)
 }
 
 // The reply within an allowance, whole.
-pub fn allowed(counts: Counts, wanted: Wanted, allowance: u32, reply: Reply) -> Counts {
+pub(crate) fn allowed(counts: Counts, wanted: Wanted, allowance: u32, reply: Reply) -> Counts {
     let told = told(reply);
     counts
         .saw(told.verdict)
@@ -181,6 +181,6 @@ pub fn allowed(counts: Counts, wanted: Wanted, allowance: u32, reply: Reply) -> 
 }
 
 // What filling found, held against what trying everything says.
-pub fn filling(counts: Counts, found: bool, blocks: bool) -> Counts {
+pub(crate) fn filling(counts: Counts, found: bool, blocks: bool) -> Counts {
     counts.noted(FILLING, found != blocks)
 }

@@ -82,7 +82,7 @@ fn size_of(size: usize) -> u32 {
     if size < 64 { size as u32 } else { 64 }
 }
 
-pub fn asked_of(duty: Duty, spread: bool, noise: u32) -> Asked {
+pub(crate) fn asked_of(duty: Duty, spread: bool, noise: u32) -> Asked {
     Asked {
         table: table_of(duty, spread, noise),
         task: task_of(duty, spread),
@@ -91,7 +91,7 @@ pub fn asked_of(duty: Duty, spread: bool, noise: u32) -> Asked {
     }
 }
 
-pub fn ask_policy(asked: Asked, skipping: bool, away: u32, allowance: u32) -> Reply {
+pub(crate) fn ask_policy(asked: Asked, skipping: bool, away: u32, allowance: u32) -> Reply {
     let table = asked.table;
     if skipping {
         absences::ask_skipping(table, asked.task, away, asked.crews, asked.size, allowance)
@@ -100,7 +100,7 @@ pub fn ask_policy(asked: Asked, skipping: bool, away: u32, allowance: u32) -> Re
     }
 }
 
-pub fn ask_named(asked: Asked, absent: u64, allowance: u32) -> Reply {
+pub(crate) fn ask_named(asked: Asked, absent: u64, allowance: u32) -> Reply {
     let table = asked.table;
     crews::ask_named(
         table,
@@ -227,7 +227,7 @@ fn try_small(counts: Counts, number: usize) -> Counts {
 }
 
 // All tables of up to 3 rows and 3 permissions, with every task, d and t from 1 to 4, and s from 0 to 4.
-pub fn try_all_small(counts: Counts) -> Counts {
+pub(crate) fn try_all_small(counts: Counts) -> Counts {
     let mut now = counts;
     for number in 0..SMALL {
         now = try_small(now, number);
@@ -288,7 +288,7 @@ fn try_drawn(counts: Counts, a: u64, b: u64, c: u64, d: u64) -> Counts {
 }
 
 // Tables of 4 to 6 rows, drawn by a fixed row of numbers.
-pub fn try_all_drawn(counts: Counts) -> Counts {
+pub(crate) fn try_all_drawn(counts: Counts) -> Counts {
     let mut now = counts;
     let mut a: u64 = 88172645463325252;
     for _ in 0..DRAWN {

@@ -49,7 +49,7 @@ pub const NONE: usize = 4;
 pub const REFUSED: usize = 5;
 
 // How many sets so many rows have.
-pub fn sets_of(rows: usize) -> usize
+pub(crate) fn sets_of(rows: usize) -> usize
     ensures { λ r. ⌜ r ≤ 64 ⌝ }
 {
     match rows {
@@ -64,7 +64,7 @@ pub fn sets_of(rows: usize) -> usize
 }
 
 // The set with this number.
-pub fn set_of(number: usize) -> [bool; ROWS] {
+pub(crate) fn set_of(number: usize) -> [bool; ROWS] {
     let mut set = [false; ROWS];
     let mut left = number;
     for row in 0..ROWS {
@@ -80,7 +80,7 @@ fn one(row: usize) -> u64 {
 }
 
 // The set as one of the libraries.
-pub fn mask_of(set: [bool; ROWS]) -> u64 {
+pub(crate) fn mask_of(set: [bool; ROWS]) -> u64 {
     let mut mask: u64 = 0;
     for row in 0..ROWS {
         if set[row] {
@@ -102,7 +102,7 @@ fn crew_mask(placed: Placed, crew: usize) -> u64 {
 }
 
 // The crews of a reply.
-pub fn crews_of(placed: Placed) -> [u64; LISTED] {
+pub(crate) fn crews_of(placed: Placed) -> [u64; LISTED] {
     let mut crews = [0u64; LISTED];
     for crew in 0..LISTED {
         crews[crew] = crew_mask(placed, crew);
@@ -142,7 +142,7 @@ fn order_of(ranks: [usize; ROWS], rows: usize) -> [usize; SETS] {
 }
 
 // All that is known for this duty.
-pub fn known_of(duty: Duty) -> Known {
+pub(crate) fn known_of(duty: Duty) -> Known {
     let ranks = duty.ranks();
     let sets = sets_of(duty.rows);
     let mut size = [0usize; SETS];
@@ -187,7 +187,7 @@ impl Known {
     }
 
     // The number of the first absence of at most `away` rows that blocks, the earliest of all that do; SETS where none does.
-    pub fn first_blocker(self, duty: Duty, away: usize) -> usize {
+    pub(crate) fn first_blocker(self, duty: Duty, away: usize) -> usize {
         let ranks = duty.ranks();
         let rows = duty.rows;
         let mut best: usize = SETS;
@@ -239,7 +239,7 @@ impl Known {
     }
 
     // The need of the policy question: the units of the absences tried, up to and including the first that blocks.
-    pub fn need(self, skipping: bool, away: usize) -> u32 {
+    pub(crate) fn need(self, skipping: bool, away: usize) -> u32 {
         let mut need: u32 = 0;
         for place in 0..SETS {
             need = std::num::wrapping_add_u32(need, self.units_at(place, skipping, away));
@@ -251,7 +251,7 @@ impl Known {
     }
 
     // What a policy question has to reply.
-    pub fn policy_reply(self, duty: Duty, skipping: bool, away: usize) -> Wanted {
+    pub(crate) fn policy_reply(self, duty: Duty, skipping: bool, away: usize) -> Wanted {
         let need = self.need(skipping, away);
         let blocker = self.first_blocker(duty, away);
         if blocker < SETS {
@@ -272,7 +272,7 @@ impl Known {
 }
 
 // What a question for the absence with this number has to reply: whether there is a list by trying everything, which by filling.
-pub fn named_reply(known: Known, duty: Duty, number: usize) -> Wanted {
+pub(crate) fn named_reply(known: Known, duty: Duty, number: usize) -> Wanted {
     let filled = duty.fill(set_of(number));
     if known.is_blocking(number) {
         return Wanted {
@@ -292,7 +292,7 @@ pub fn named_reply(known: Known, duty: Duty, number: usize) -> Wanted {
 
 impl Wanted {
     // What has to be replied within an allowance.
-    pub fn within(self, allowance: u32) -> Wanted {
+    pub(crate) fn within(self, allowance: u32) -> Wanted {
         if allowance < self.units {
             return Wanted {
                 verdict: UNDECIDED,

@@ -35,7 +35,7 @@ fn example() -> Duty {
     }
 }
 
-pub fn replies() -> Ground {
+pub(crate) fn replies() -> Ground {
     let duty = example();
     let asked = family::asked_of(duty, false, 0);
     let known = known::known_of(duty);
@@ -104,7 +104,7 @@ fn allowed(ground: Ground) -> Counts {
 }
 
 // The comparison of one kind, on wrong replies alone.
-pub fn planted(ground: Ground, kind: usize) -> Counts {
+pub(crate) fn planted(ground: Ground, kind: usize) -> Counts {
     if kind <= compare::UNITS {
         return compare::policy(
             Counts::none(),
