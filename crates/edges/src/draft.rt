@@ -23,14 +23,15 @@ pub fn front(bytes: &[u8; ROOM], length: usize) -> &[u8] {
     }
 }
 
-impl Draft {
-    pub fn none() -> Draft {
-        Draft {
-            bytes: [0; ROOM],
-            length: 0,
-        }
+// A book with nothing in it yet.
+pub fn empty() -> Draft {
+    Draft {
+        bytes: [0; ROOM],
+        length: 0,
     }
+}
 
+impl Draft {
     // One byte more; where there is no room left for it, none.
     pub fn byte(self, value: u8) -> Draft {
         let mut bytes = self.bytes;
@@ -81,7 +82,7 @@ impl Draft {
 
 // The published book B.
 pub fn b() -> Draft {
-    Draft::none()
+    empty()
         .count(2)
         .code(10)
         .code(20)
@@ -98,7 +99,7 @@ pub fn b() -> Draft {
 
 // So many permissions, with the codes from 0 on.
 pub fn permissions_to(count: u8) -> Draft {
-    let mut book = Draft::none().count(count);
+    let mut book = empty().count(count);
     for i in 0..count {
         book = book.code(wide(i));
     }

@@ -1,6 +1,7 @@
 // The parts of a book: staff numbers and holdings by row, the table, the policies. Past the last there is none, and a refused book has none.
 use crate::draft::Draft;
 use crate::draft::b;
+use crate::draft::empty;
 use crate::draft::front;
 use crate::tally::Tally;
 use book::Holdings;
@@ -129,7 +130,7 @@ pub fn refused_book() -> Tally {
         .noted(no_holdings(b().cut(59), 3))
         .noted(table(b().cut(59), 0, [0, 0, 0, 0, 0, 0]))
         .noted(no_policy(b().cut(59), 0))
-        .noted(no_staff(Draft::none(), 0))
-        .noted(no_holdings(Draft::none(), 0))
-        .noted(no_policy(Draft::none(), 0))
+        .noted(no_staff(empty(), 0))
+        .noted(no_holdings(empty(), 0))
+        .noted(no_policy(empty(), 0))
 }

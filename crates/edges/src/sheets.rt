@@ -1,6 +1,7 @@
 // Printed sheets, whole. The sample books and their sheets stand in files.
 use crate::draft::Draft;
 use crate::draft::b;
+use crate::draft::empty;
 use crate::draft::front;
 use crate::draft::longest;
 use crate::tally::Tally;
@@ -49,15 +50,15 @@ pub fn written_out() -> Tally {
     Tally::none()
         .noted(prints(b(), b"0 yes 8 101/102,103\n1 no 11 101,104\n2 no 10 -\n"))
         .noted(prints(b().byte(0), b"bad 19 60\n"))
-        .noted(prints(Draft::none(), b"bad 11 0\n"))
+        .noted(prints(empty(), b"bad 11 0\n"))
         .noted(prints(longest().byte(0), b"bad 19 803\n"))
         .noted(prints(one_row(0, 0, 1), b"0 no 1 -\n"))
         .noted(prints(one_row(0, 1, 0), b"0 yes 2 0\n"))
         .noted(prints(one_row(0, 1, 1), b"0 no 3 0\n"))
         .noted(prints(one_row(4294967295, 1, 0), b"0 yes 2 4294967295\n"))
-        .noted(prints(Draft::none().count(1).code(0).count(0).count(0), b""))
+        .noted(prints(empty().count(1).code(0).count(0).count(0), b""))
         .noted(prints(
-            Draft::none()
+            empty()
                 .count(1)
                 .code(0)
                 .count(0)
@@ -70,7 +71,7 @@ pub fn written_out() -> Tally {
 
 // One permission, one row, and one policy of one crew.
 fn one_row(staff: u32, holdings: u32, away: u8) -> Draft {
-    Draft::none()
+    empty()
         .count(1)
         .code(0)
         .count(1)

@@ -47,9 +47,9 @@ pub fn alike(rows: usize, holdings: u32) -> Table {
 }
 
 // So many rows that hold nothing, but for the last of all 64.
-pub fn last_holds(rows: usize, last: u32) -> Table {
+pub fn last(rows: usize, held: u32) -> Table {
     let mut holdings = [0u32; Policy::ROWS];
-    holdings[63] = last;
+    holdings[63] = held;
     Table {
         holdings: holdings,
         rows: rows,
@@ -57,7 +57,7 @@ pub fn last_holds(rows: usize, last: u32) -> Table {
 }
 
 // A row for each of the 32 permissions, row i holding permission i.
-pub fn one_each() -> Table {
+pub fn each() -> Table {
     let mut holdings = [0u32; Policy::ROWS];
     for row in 0..32 {
         holdings[row] = 1u32 << row;

@@ -24,6 +24,24 @@ pub struct Answer {
     pub units: u32,
 }
 
+// Lists of crews.
+pub fn one(first: u64) -> [u64; 8] {
+    [first, 0, 0, 0, 0, 0, 0, 0]
+}
+
+pub fn two(first: u64, second: u64) -> [u64; 8] {
+    [first, second, 0, 0, 0, 0, 0, 0]
+}
+
+pub fn three(first: u64, second: u64, third: u64) -> [u64; 8] {
+    [first, second, third, 0, 0, 0, 0, 0]
+}
+
+// The rows 0 to 7, each a crew.
+pub fn eight() -> [u64; 8] {
+    [1, 2, 4, 8, 16, 32, 64, 128]
+}
+
 pub fn yes(crews: [u64; 8], units: u32) -> Answer {
     Answer {
         verdict: YES,

@@ -5,10 +5,10 @@ use Rattle.edges.proofs.reader.cuts.Statement.{statement}
 use Rattle.edges.proofs.reader.cuts.Tie as tie
 
 abbrev Inv-loop : tie.InvT-loop
-Inv-loop places tally₀ length₀ tally length = length ≤ 60
+Inv-loop tally₀ length₀ tally length = length ≤ 60
 
 abbrev μ-loop : tie.MeasureT-loop
-μ-loop places tally₀ length₀ tally length = 60 - length
+μ-loop tally₀ length₀ tally length = 60 - length
 
 pub cuts-spec : {M : Type 1} → statement M
 cuts-spec =
@@ -17,12 +17,9 @@ cuts-spec =
     Inv-loop
     μ-loop
     (λ c κs. search needs)
-    (λ c κs. search needs)
     (λ c. search needs)
     (λ c κs. search needs)
     (λ c κs. search needs)
-    (λ c. search needs)
-    (λ c. search needs)
     (λ c κs. search needs)
     (λ c κs. search needs)
     (λ c. search needs)

@@ -1,8 +1,8 @@
 -- The loop ends: a turn for each row that is left.
 use borrow.Author.Needs.{needs}
 use Prim.Native.Nat.{_≤_, _-_}
-use Rattle.edges.proofs.tables.one_each.Statement.{statement}
-use Rattle.edges.proofs.tables.one_each.Tie as tie
+use Rattle.edges.proofs.tables.each.Statement.{statement}
+use Rattle.edges.proofs.tables.each.Tie as tie
 
 abbrev Inv-loop : tie.InvT-loop
 Inv-loop holdings₀ row₀ holdings row = row ≤ 32
@@ -10,8 +10,8 @@ Inv-loop holdings₀ row₀ holdings row = row ≤ 32
 abbrev μ-loop : tie.MeasureT-loop
 μ-loop holdings₀ row₀ holdings row = 32 - row
 
-pub one-each-spec : {M : Type 1} → statement M
-one-each-spec =
+pub each-spec : {M : Type 1} → statement M
+each-spec =
     tie.close
     (tie.spec
     Inv-loop
