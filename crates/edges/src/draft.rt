@@ -14,7 +14,7 @@ fn low(n: u32) -> u8 {
 }
 
 // The first `length` bytes of the room, which is all of it where there are not so many.
-pub fn front(bytes: &[u8; ROOM], length: usize) -> &[u8] {
+pub(crate) fn front(bytes: &[u8; ROOM], length: usize) -> &[u8] {
     let whole: &[u8] = bytes;
     if length <= whole.len() {
         &whole[0..length]
@@ -24,7 +24,7 @@ pub fn front(bytes: &[u8; ROOM], length: usize) -> &[u8] {
 }
 
 // A book with nothing in it yet.
-pub fn empty() -> Draft {
+pub(crate) fn empty() -> Draft {
     Draft {
         bytes: [0; ROOM],
         length: 0,
@@ -33,7 +33,7 @@ pub fn empty() -> Draft {
 
 impl Draft {
     // One byte more; where there is no room left for it, none.
-    pub fn byte(self, value: u8) -> Draft {
+    pub(crate) fn byte(self, value: u8) -> Draft {
         let mut bytes = self.bytes;
         let length = self.length;
         if length < ROOM {
@@ -47,12 +47,12 @@ impl Draft {
     }
 
     // The count that a section starts with.
-    pub fn count(self, entries: u8) -> Draft {
+    pub(crate) fn count(self, entries: u8) -> Draft {
         self.byte(entries)
     }
 
     // A permission's code.
-    pub fn code(self, code: u32) -> Draft {
+    pub(crate) fn code(self, code: u32) -> Draft {
         self.byte(low(code)).byte(low(code / 256))
     }
 
@@ -61,17 +61,17 @@ impl Draft {
     }
 
     // A row.
-    pub fn row(self, staff: u32, holdings: u32) -> Draft {
+    pub(crate) fn row(self, staff: u32, holdings: u32) -> Draft {
         self.four(staff).four(holdings)
     }
 
     // A policy.
-    pub fn policy(self, task: u32, away: u8, crews: u8, size: u8) -> Draft {
+    pub(crate) fn policy(self, task: u32, away: u8, crews: u8, size: u8) -> Draft {
         self.four(task).byte(away).byte(crews).byte(size)
     }
 
     // The first bytes alone.
-    pub fn cut(self, length: usize) -> Draft {
+    pub(crate) fn cut(self, length: usize) -> Draft {
         let bytes = self.bytes;
         Draft {
             bytes: bytes,
@@ -81,7 +81,7 @@ impl Draft {
 }
 
 // The published book B.
-pub fn b() -> Draft {
+pub(crate) fn b() -> Draft {
     empty()
         .count(2)
         .code(10)
@@ -98,7 +98,7 @@ pub fn b() -> Draft {
 }
 
 // So many permissions, with the codes from 0 on.
-pub fn permissions_to(count: u8) -> Draft {
+pub(crate) fn permissions_to(count: u8) -> Draft {
     let mut book = empty().count(count);
     for i in 0..count {
         book = book.code(wide(i));
@@ -129,6 +129,6 @@ fn all_policies(book: Draft) -> Draft {
 }
 
 // As long as a book can be: 32 permissions, 64 rows and 32 policies.
-pub fn longest() -> Draft {
+pub(crate) fn longest() -> Draft {
     all_policies(all_rows(permissions_to(32)))
 }

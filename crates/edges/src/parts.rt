@@ -89,7 +89,7 @@ fn no_policy(book: Draft, index: usize) -> bool {
 }
 
 // Book B by rows.
-pub fn rows_of_b() -> Tally {
+pub(crate) fn rows_of_b() -> Tally {
     Tally::none()
         .noted(staff(b(), 0, 101))
         .noted(staff(b(), 1, 102))
@@ -107,7 +107,7 @@ pub fn rows_of_b() -> Tally {
 }
 
 // Book B by policies.
-pub fn policies_of_b() -> Tally {
+pub(crate) fn policies_of_b() -> Tally {
     Tally::none()
         .noted(policy_count(b(), 3))
         .noted(policy(b(), 0, 3, 1, 2, 2))
@@ -118,7 +118,7 @@ pub fn policies_of_b() -> Tally {
 }
 
 // B with one byte added, and B cut in its last policy: refused, so every row is "no such row".
-pub fn refused_book() -> Tally {
+pub(crate) fn refused_book() -> Tally {
     Tally::none()
         .noted(no_staff(b().byte(0), 0))
         .noted(no_staff(b().byte(0), 3))

@@ -16,7 +16,7 @@ use crate::tally::undecided;
 use crate::tally::yes;
 
 // A wrong verdict, blocker or number of units.
-pub fn replies() -> Tally {
+pub(crate) fn replies() -> Tally {
     Tally::none()
         .skipping(h(), asked(3, 1, 2, 2), AMPLE, crews(two(1, 6), 8))
         .skipping(h(), asked(3, 1, 2, 2), AMPLE, yes(two(1, 6), 9))
@@ -41,7 +41,7 @@ fn given(crews: [u64; 8]) -> bool {
 }
 
 // A wrong set in each of the eight places.
-pub fn crew_lists() -> Tally {
+pub(crate) fn crew_lists() -> Tally {
     Tally::none()
         .noted(given([8, 6, 0, 0, 0, 0, 0, 0]))
         .noted(given([1, 2, 0, 0, 0, 0, 0, 0]))
@@ -54,7 +54,7 @@ pub fn crew_lists() -> Tally {
 }
 
 // A wrong number, place or start, and good for refused.
-pub fn readings() -> Tally {
+pub(crate) fn readings() -> Tally {
     Tally::none()
         .refuses(b().byte(0), 19, 59)
         .refuses(b().byte(0), 11, 60)
@@ -65,7 +65,7 @@ pub fn readings() -> Tally {
 }
 
 // A wrong byte, one too few, one too many.
-pub fn sheets() -> Tally {
+pub(crate) fn sheets() -> Tally {
     Tally::none()
         .noted(prints(b(), b"0 yes 8 101/102,104\n1 no 11 101,104\n2 no 10 -\n"))
         .noted(prints(b(), b"0 yes 8 101/102,103\n1 no 11 101,104\n2 no 10 -"))

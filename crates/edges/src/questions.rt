@@ -35,7 +35,7 @@ const MOST: usize = 18446744073709551615;
 const WRAPS: usize = 4294967297;
 
 // The published table, a to m; f to k by both searches.
-pub fn examples() -> Tally {
+pub(crate) fn examples() -> Tally {
     Tally::none()
         .skipping(h(), asked(3, 1, 2, 2), AMPLE, yes(two(1, 6), 8))
         .full(h(), asked(3, 1, 2, 2), AMPLE, yes(two(1, 6), 19))
@@ -53,7 +53,7 @@ pub fn examples() -> Tally {
 }
 
 // 64 rows and 65; a row past the count plays no part, the last one within it does.
-pub fn rows() -> Tally {
+pub(crate) fn rows() -> Tally {
     Tally::none()
         .both(alike(64, 1), asked(1, 0, 8, 1), AMPLE, yes(eight(), 9))
         .skipping(alike(64, 1), asked(1, 1, 8, 1), AMPLE, yes(eight(), 18))
@@ -69,7 +69,7 @@ pub fn rows() -> Tally {
 }
 
 // s 64 and 65. With 64 equal rows each size has one absence worth trying, and all 64 absent block.
-pub fn away() -> Tally {
+pub(crate) fn away() -> Tally {
     Tally::none()
         .both(h(), asked(3, 0, 1, 1), AMPLE, yes(one(1), 2))
         .skipping(h(), asked(3, 64, 1, 1), AMPLE, no(9, 7))
@@ -84,7 +84,7 @@ pub fn away() -> Tally {
 }
 
 // d 0, 1, 8 and 9. Where seven rows could each be a crew, every order of them is tried for eight crews: 13,699 placements.
-pub fn crew_counts() -> Tally {
+pub(crate) fn crew_counts() -> Tally {
     Tally::none()
         .both(h(), asked(3, 1, 0, 2), AMPLE, refused(4))
         .skipping(h(), asked(3, 1, 1, 2), AMPLE, yes(one(1), 5))
@@ -102,7 +102,7 @@ pub fn crew_counts() -> Tally {
 }
 
 // t 0, 1, 64 and 65, and a crew that needs all 32 of its members.
-pub fn sizes() -> Tally {
+pub(crate) fn sizes() -> Tally {
     Tally::none()
         .both(h(), asked(3, 0, 2, 0), AMPLE, refused(5))
         .both(h(), asked(3, 0, 2, 1), AMPLE, yes(two(1, 8), 4))
@@ -122,7 +122,7 @@ pub fn sizes() -> Tally {
 }
 
 // The need and one unit less, and no unit at all, of policy questions.
-pub fn allowances() -> Tally {
+pub(crate) fn allowances() -> Tally {
     Tally::none()
         .skipping(h(), asked(3, 1, 2, 2), 8, yes(two(1, 6), 8))
         .skipping(h(), asked(3, 1, 2, 2), 7, undecided(7))
@@ -143,7 +143,7 @@ pub fn allowances() -> Tally {
 }
 
 // The same of named absences. One that needs nothing is decided with nothing allowed.
-pub fn named_allowances() -> Tally {
+pub(crate) fn named_allowances() -> Tally {
     Tally::none()
         .named(h(), asked(3, 0, 2, 2), 1, 3, crews(two(6, 8), 3))
         .named(h(), asked(3, 0, 2, 2), 1, 2, undecided(2))
@@ -157,7 +157,7 @@ pub fn named_allowances() -> Tally {
 }
 
 // Bit 3 and bit 4 of four rows, bit 63 of 64 and of 63, and tables of no rows.
-pub fn absent() -> Tally {
+pub(crate) fn absent() -> Tally {
     Tally::none()
         .named(h(), asked(3, 0, 2, 2), 8, AMPLE, crews(two(1, 6), 3))
         .named(h(), asked(3, 0, 2, 2), 16, AMPLE, refused(6))
@@ -200,7 +200,7 @@ pub fn absent() -> Tally {
 }
 
 // Several faults in one question: the first in the published order is told.
-pub fn first_fault() -> Tally {
+pub(crate) fn first_fault() -> Tally {
     Tally::none()
         .both(alike(65, 1), asked(0, 65, 0, 0), AMPLE, refused(1))
         .both(alike(64, 1), asked(0, 65, 0, 0), AMPLE, refused(2))
@@ -224,7 +224,7 @@ pub fn first_fault() -> Tally {
 
 // Replies that an error which looks reasonable would alter: rank used for skipping, equal rows skipped both ways, crews filled without going
 // back, holdings outside the task counted.
-pub fn reasonable() -> Tally {
+pub(crate) fn reasonable() -> Tally {
     Tally::none()
         .skipping(table(3, 3, 3, 4, 7), asked(7, 1, 1, 2), AMPLE, no(4, 9))
         .full(table(3, 3, 3, 4, 7), asked(7, 1, 1, 2), AMPLE, no(4, 12))

@@ -40,13 +40,13 @@ fn read(book: Draft) -> Outcome {
 
 impl Tally {
     // The book is refused with this number and place.
-    pub fn refuses(self, book: Draft, number: u32, place: usize) -> Tally {
+    pub(crate) fn refuses(self, book: Draft, number: u32, place: usize) -> Tally {
         let outcome = read(book);
         self.noted(outcome.number == number && outcome.place == place)
     }
 
     // The book is good, with its rows and its policies starting here.
-    pub fn admits(self, book: Draft, rows: usize, policies: usize) -> Tally {
+    pub(crate) fn admits(self, book: Draft, rows: usize, policies: usize) -> Tally {
         let outcome = read(book);
         let sound = outcome.number == 0 && outcome.place == 0;
         self.noted(sound && outcome.rows == rows && outcome.policies == policies)
@@ -54,7 +54,7 @@ impl Tally {
 }
 
 // Book B, B with bytes added, and no input.
-pub fn book_b() -> Tally {
+pub(crate) fn book_b() -> Tally {
     Tally::none()
         .admits(b(), 5, 38)
         .refuses(b().byte(0), 19, 60)
@@ -82,7 +82,7 @@ fn cut_place(length: usize) -> usize {
 }
 
 // B cut at every byte.
-pub fn cuts() -> Tally {
+pub(crate) fn cuts() -> Tally {
     let mut tally = Tally::none();
     for length in 0..60 {
         tally = tally.refuses(b().cut(length), 11, cut_place(length));
@@ -101,7 +101,7 @@ fn one_policy(task: u32, away: u8, crews: u8, size: u8) -> Draft {
 }
 
 // 12 and 13: the permissions. 200 and above are no count either.
-pub fn permissions() -> Tally {
+pub(crate) fn permissions() -> Tally {
     Tally::none()
         .refuses(empty().count(0).count(0).count(0), 12, 0)
         .refuses(empty().count(33), 12, 0)
@@ -117,7 +117,7 @@ pub fn permissions() -> Tally {
 }
 
 // 14, 15 and 16: the rows.
-pub fn table_rows() -> Tally {
+pub(crate) fn table_rows() -> Tally {
     Tally::none()
         .refuses(listed().count(65), 14, 5)
         .refuses(listed().count(255), 14, 5)
@@ -142,7 +142,7 @@ pub fn table_rows() -> Tally {
 }
 
 // 17, 18, 2, 3, 4 and 5: the policies.
-pub fn policies() -> Tally {
+pub(crate) fn policies() -> Tally {
     Tally::none()
         .refuses(listed().count(0).count(33), 17, 6)
         .refuses(listed().count(0).count(255), 17, 6)
@@ -181,7 +181,7 @@ pub fn policies() -> Tally {
 }
 
 // Two faults in one entry: a cut comes before all others, then the order of the numbers as listed.
-pub fn one_entry() -> Tally {
+pub(crate) fn one_entry() -> Tally {
     Tally::none()
         .refuses(empty().count(2).code(20).byte(10), 11, 3)
         .refuses(listed().count(2).row(8, 1).row(7, 4).cut(21), 11, 14)
@@ -197,7 +197,7 @@ pub fn one_entry() -> Tally {
 }
 
 // Two faults in different places: the book is read from the front.
-pub fn two_places() -> Tally {
+pub(crate) fn two_places() -> Tally {
     Tally::none()
         .refuses(empty().count(3).code(20).code(10), 13, 3)
         .refuses(empty().count(2).code(20).code(10).count(65), 13, 3)
@@ -227,7 +227,7 @@ pub fn two_places() -> Tally {
 
 // Zero is ordinary as the first code, the first staff number, holdings, s, and the counts of rows and of policies; it is not as a code or a
 // staff number after another, nor as the count of permissions, P, d and t.
-pub fn zeros() -> Tally {
+pub(crate) fn zeros() -> Tally {
     Tally::none()
         .admits(empty().count(1).code(0).count(0).count(0), 3, 4)
         .admits(empty().count(2).code(0).code(1).count(0).count(0), 5, 6)
@@ -245,7 +245,7 @@ pub fn zeros() -> Tally {
 }
 
 // 31 and 32 permissions: which holdings and which tasks are past them.
-pub fn last_permission() -> Tally {
+pub(crate) fn last_permission() -> Tally {
     Tally::none()
         .admits(
             permissions_to(31)
@@ -295,7 +295,7 @@ pub fn last_permission() -> Tally {
 }
 
 // The longest book, 803 bytes, and one byte more.
-pub fn longest_book() -> Tally {
+pub(crate) fn longest_book() -> Tally {
     Tally::none()
         .admits(longest(), 65, 578)
         .noted(longest().length == 803)
@@ -323,7 +323,7 @@ fn longest_place(length: usize) -> usize {
 }
 
 // The longest book cut at every byte.
-pub fn longest_cuts() -> Tally {
+pub(crate) fn longest_cuts() -> Tally {
     let book = longest();
     let mut tally = Tally::none();
     for length in 0..803 {

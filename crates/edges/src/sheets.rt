@@ -30,7 +30,7 @@ fn sheet(book: &[u8], text: &[u8]) -> bool {
     }
 }
 
-pub fn prints(book: Draft, text: &[u8]) -> bool {
+pub(crate) fn prints(book: Draft, text: &[u8]) -> bool {
     let bytes = book.bytes;
     sheet(front(&bytes, book.length), text)
 }
@@ -46,7 +46,7 @@ fn too_short(book: Draft) -> bool {
 }
 
 // The published sheets, and those of small books.
-pub fn written_out() -> Tally {
+pub(crate) fn written_out() -> Tally {
     Tally::none()
         .noted(prints(b(), b"0 yes 8 101/102,103\n1 no 11 101,104\n2 no 10 -\n"))
         .noted(prints(b().byte(0), b"bad 19 60\n"))
@@ -100,7 +100,7 @@ fn sample(book_name: &[u8], sheet_name: &[u8]) -> bool {
 }
 
 // The sample books.
-pub fn samples() -> Tally {
+pub(crate) fn samples() -> Tally {
     Tally::none()
         .noted(sample(b"b.book", b"b.sheet"))
         .noted(sample(b"weekend.book", b"weekend.sheet"))
@@ -116,6 +116,6 @@ fn prints_file(book: Draft, sheet_name: &[u8]) -> bool {
 }
 
 // The longest book, whose 32 lines each name 64 people.
-pub fn longest_sheet() -> Tally {
+pub(crate) fn longest_sheet() -> Tally {
     Tally::none().noted(prints_file(longest(), b"longest.sheet"))
 }

@@ -6,7 +6,7 @@ use roster::Table;
 pub const AMPLE: u32 = 4294967295;
 
 // A question's task, absences, crews and size, whether admitted or not: (P; s,d,t).
-pub fn asked(task: u32, away: u32, crews: usize, size: u32) -> Policy {
+pub(crate) fn asked(task: u32, away: u32, crews: usize, size: u32) -> Policy {
     Policy {
         task: task,
         away: away,
@@ -16,7 +16,7 @@ pub fn asked(task: u32, away: u32, crews: usize, size: u32) -> Policy {
 }
 
 // Up to four rows. Past the row count stands what plays no part.
-pub fn table(rows: usize, first: u32, second: u32, third: u32, fourth: u32) -> Table {
+pub(crate) fn table(rows: usize, first: u32, second: u32, third: u32, fourth: u32) -> Table {
     let mut holdings = [4294967295u32; Policy::ROWS];
     holdings[0] = first;
     holdings[1] = second;
@@ -29,17 +29,17 @@ pub fn table(rows: usize, first: u32, second: u32, third: u32, fourth: u32) -> T
 }
 
 // The published example H.
-pub fn h() -> Table {
+pub(crate) fn h() -> Table {
     table(4, 3, 1, 2, 3)
 }
 
 // The published example M.
-pub fn m() -> Table {
+pub(crate) fn m() -> Table {
     table(4, 7, 25, 42, 52)
 }
 
 // So many rows with the same holdings.
-pub fn alike(rows: usize, holdings: u32) -> Table {
+pub(crate) fn alike(rows: usize, holdings: u32) -> Table {
     Table {
         holdings: [holdings; Policy::ROWS],
         rows: rows,
@@ -47,7 +47,7 @@ pub fn alike(rows: usize, holdings: u32) -> Table {
 }
 
 // So many rows that hold nothing, but for the last of all 64.
-pub fn last(rows: usize, held: u32) -> Table {
+pub(crate) fn last(rows: usize, held: u32) -> Table {
     let mut holdings = [0u32; Policy::ROWS];
     holdings[63] = held;
     Table {
@@ -57,7 +57,7 @@ pub fn last(rows: usize, held: u32) -> Table {
 }
 
 // A row for each of the 32 permissions, row i holding permission i.
-pub fn each() -> Table {
+pub(crate) fn each() -> Table {
     let mut holdings = [0u32; Policy::ROWS];
     for row in 0..32 {
         holdings[row] = 1u32 << row;

@@ -25,24 +25,24 @@ pub struct Answer {
 }
 
 // Lists of crews.
-pub fn one(first: u64) -> [u64; 8] {
+pub(crate) fn one(first: u64) -> [u64; 8] {
     [first, 0, 0, 0, 0, 0, 0, 0]
 }
 
-pub fn two(first: u64, second: u64) -> [u64; 8] {
+pub(crate) fn two(first: u64, second: u64) -> [u64; 8] {
     [first, second, 0, 0, 0, 0, 0, 0]
 }
 
-pub fn three(first: u64, second: u64, third: u64) -> [u64; 8] {
+pub(crate) fn three(first: u64, second: u64, third: u64) -> [u64; 8] {
     [first, second, third, 0, 0, 0, 0, 0]
 }
 
 // The rows 0 to 7, each a crew.
-pub fn eight() -> [u64; 8] {
+pub(crate) fn eight() -> [u64; 8] {
     [1, 2, 4, 8, 16, 32, 64, 128]
 }
 
-pub fn yes(crews: [u64; 8], units: u32) -> Answer {
+pub(crate) fn yes(crews: [u64; 8], units: u32) -> Answer {
     Answer {
         verdict: YES,
         crews: crews,
@@ -51,7 +51,7 @@ pub fn yes(crews: [u64; 8], units: u32) -> Answer {
     }
 }
 
-pub fn crews(crews: [u64; 8], units: u32) -> Answer {
+pub(crate) fn crews(crews: [u64; 8], units: u32) -> Answer {
     Answer {
         verdict: CREWS,
         crews: crews,
@@ -69,19 +69,19 @@ fn bare(verdict: u32, blocker: u64, units: u32) -> Answer {
     }
 }
 
-pub fn no(blocker: u64, units: u32) -> Answer {
+pub(crate) fn no(blocker: u64, units: u32) -> Answer {
     bare(NO, blocker, units)
 }
 
-pub fn undecided(units: u32) -> Answer {
+pub(crate) fn undecided(units: u32) -> Answer {
     bare(UNDECIDED, 0, units)
 }
 
-pub fn none(units: u32) -> Answer {
+pub(crate) fn none(units: u32) -> Answer {
     bare(NONE, 0, units)
 }
 
-pub fn refused(number: u32) -> Answer {
+pub(crate) fn refused(number: u32) -> Answer {
     bare(number, 0, 0)
 }
 
@@ -97,7 +97,7 @@ fn verdict_number(verdict: Verdict) -> u32 {
 }
 
 // The reply as it is compared.
-pub fn answer_of(reply: Reply) -> Answer {
+pub(crate) fn answer_of(reply: Reply) -> Answer {
     let verdict = reply.verdict;
     let crews = reply.crews;
     Answer {
@@ -119,7 +119,7 @@ fn same_four(a: [u64; 8], b: [u64; 8], from: usize) -> bool {
 }
 
 // Whether verdict, crews, blocker and units are all the same.
-pub fn same(a: Answer, b: Answer) -> bool {
+pub(crate) fn same(a: Answer, b: Answer) -> bool {
     let mine = a.crews;
     let other = b.crews;
     a.verdict == b.verdict
@@ -136,7 +136,7 @@ pub struct Tally {
 }
 
 impl Tally {
-    pub fn none() -> Tally {
+    pub(crate) fn none() -> Tally {
         Tally {
             compared: 0,
             differ: 0,
@@ -144,7 +144,7 @@ impl Tally {
     }
 
     // One comparison more.
-    pub fn noted(self, same: bool) -> Tally {
+    pub(crate) fn noted(self, same: bool) -> Tally {
         let differs = if same { 0 } else { 1 };
         Tally {
             compared: std::num::wrapping_add_u64(self.compared, 1),
@@ -153,7 +153,13 @@ impl Tally {
     }
 
     // The policy question by the search that skips.
-    pub fn skipping(self, table: Table, asked: Policy, allowance: u32, expected: Answer) -> Tally {
+    pub(crate) fn skipping(
+        self,
+        table: Table,
+        asked: Policy,
+        allowance: u32,
+        expected: Answer,
+    ) -> Tally {
         let reply = absences::ask_skipping(
             table,
             asked.task,
@@ -166,7 +172,13 @@ impl Tally {
     }
 
     // The policy question by the full search.
-    pub fn full(self, table: Table, asked: Policy, allowance: u32, expected: Answer) -> Tally {
+    pub(crate) fn full(
+        self,
+        table: Table,
+        asked: Policy,
+        allowance: u32,
+        expected: Answer,
+    ) -> Tally {
         let reply = absences::ask_full(
             table,
             asked.task,
@@ -179,13 +191,19 @@ impl Tally {
     }
 
     // The policy question by both searches, where both have the same reply.
-    pub fn both(self, table: Table, asked: Policy, allowance: u32, expected: Answer) -> Tally {
+    pub(crate) fn both(
+        self,
+        table: Table,
+        asked: Policy,
+        allowance: u32,
+        expected: Answer,
+    ) -> Tally {
         self.skipping(table, asked, allowance, expected)
             .full(table, asked, allowance, expected)
     }
 
     // The question for a named absence; how many may be away plays no part in it.
-    pub fn named(
+    pub(crate) fn named(
         self,
         table: Table,
         asked: Policy,
