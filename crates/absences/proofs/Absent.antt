@@ -31,7 +31,7 @@ module _ (table : Table) (s : Search) (holds holders : List ℕ) (lent : Lent ta
       ap₂ (λ (h k : List ℕ). foundFrom (plainly (at h) (at k) (s .task) (s .crews) (s .size)) free) (lent .held)
       (lent .holding ∙ ap (λ (h : List ℕ). tabulate 32 (holdersOf (at h))) (lent .held))
       ∙ ap (foundFrom _) (e ∙ ap (λ (all : ℕ). bitAnd all ((2 ^ rowLimit - 1) - A)) (lent .everyone))
-      ∙ lent-filling table (s .task) (s .crews) (s .size) A (lent .small) (lent .wide) (lent .few)
+      ∙ lent-filling table (s .task) (s .crews) (s .size) A (lent .small) (lent .some) (lent .wide) (lent .few)
 
   -- with nobody absent everyone is left
   pub nobody : s .everyone ≡ bitAnd (s .everyone) ((2 ^ rowLimit - 1) - 0)

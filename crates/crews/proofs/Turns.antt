@@ -1,55 +1,50 @@
 -- The loop of `fill_on`, apart from its code: what is still to be tried is `rest`, and trying it at `units` gives what the whole search gives
 -- at `spent`. Each way through a turn keeps that or ends with the answer. Assumes nothing.
 use mathlib.Core.Path.{_≡_, refl, sym, ap, ap₂, _∙_}
-use mathlib.Core.Logic.{_⊎_, inl, inr, _≢_}
-use mathlib.Core.Bool.{true, false}
+use mathlib.Core.Logic.{⊎-elim, _≢_}
+use mathlib.Core.Bool.{true}
 use mathlib.Core.List.{List, _∷_}
 use Prim.Native.Nat.{ℕ, suc, _+_, _-_, _*_, _%_, _^_, _≤_, _<_}
 use native.Mathlib.Omega.{arith}
 use lib.Bits.{bitAnd, bitXor}
 use lib.Count.{ones, trailingZeros}
 use lib.Dec.{eqb}
+use borrow.Author.Tests.{eqb-true, eqb-false}
 use Rattle.sets.specs.Sets.{bit, Has, Sub, Least, bit-and, bit-le, trailing-least, shl-one}
 use Rattle.sets.specs.Members.{members}
 use Rattle.sets.specs.Laws.Sums.{either}
 use Rattle.sets.specs.Laws.Drop.{drop-sub, drop-lt, ones-drop}
 use Rattle.sets.specs.Laws.Members.{members-empty, members-least}
+use Rattle.roster.specs.Limits.{crewLimit}
 use Rattle.roster.specs.Replies.{noCrews}
 use Rattle.crews.specs.declared.Filling.{Filling}
 use Rattle.crews.specs.declared.Ending.the-variants.{Exhausted, Undecided}
 use Rattle.crews.specs.declared.Filled.{Filled}
-use Rattle.crews.specs.Filling.{Work, Outcome, crewOf, missingOf, placeOf, closeOf, placedOf, tryEach, search, plainly}
-use Rattle.crews.specs.Filled.{at, filledOf, closedWhere, Ready}
+use Rattle.crews.specs.Filling.{Work, Outcome, missingOf, placeOf, closeOf, placedOf, tryEach, search, plainly}
+use Rattle.crews.specs.Filled.{at, filledOf, closedWhere, stuck, Ready}
+use Rattle.crews.specs.Laws.Search.{search-full}
 use Rattle.crews.specs.Laws.Steps as step
 
 -- ---- the state after a placement
 
-module _ (task : ℕ) (f : Filling) (row holds : ℕ) where
-  abbrev placed : Filling
-  placed = closedWhere task (placeOf f row holds)
-
-  -- a closed crew or not, the row is taken, and at most one crew more is closed
-  pub placed-state : (placed .free ≡ bitXor (f .free) (2 ^ row)) × (placed .closed ≤ f .closed + 1)
-  unfolding placeOf closeOf closedWhere
-  placed-state = go (either (eqb (missingOf task (placeOf f row holds)) 0))
-    where
-      go : (eqb (missingOf task (placeOf f row holds)) 0 ≡ true) ⊎ (eqb (missingOf task (placeOf f row holds)) 0 ≡ false)
-          → (placed .free ≡ bitXor (f .free) (2 ^ row)) × (placed .closed ≤ f .closed + 1)
-      go (inl e) = rw (e, closedWhere) (refl, omega arith)
-      go (inr e) = rw (e, closedWhere) (refl, omega arith)
-
+module _ (f : Filling) (row holds : ℕ) where
   -- one row fewer is free
-  pub placed-falls : Has (f .free) row → suc (ones (placed .free)) ≡ ones (f .free)
-  placed-falls h = ap (λ (x : ℕ). suc (ones x)) (placed-state .0) ∙ ones-drop (f .free) row h
+  pub placed-falls : Has (f .free) row → suc (ones (placeOf f row holds .free)) ≡ ones (f .free)
+  unfolding placeOf
+  placed-falls h = ones-drop (f .free) row h
 
-  pub placed-ready : {crews spent units allowance : ℕ} → Ready crews f spent allowance → f .closed ≢ crews → units < allowance
-      → Ready crews placed (units + 1) allowance
-  placed-ready r n l =
-      record { few = r .few; closed = omega (arith, r .closed, placed-state .1); within = omega arith }
+  -- closed or not, there is at most one crew more
+  closed-next : (task : ℕ) → closedWhere task (placeOf f row holds) .closed ≤ f .closed + 1
+  unfolding placeOf closeOf
+  closed-next task =
+      ⊎-elim
+      (λ e. let z = ap (λ (g : Filling). g .closed) (step.shut task (placeOf f row holds) (eqb-true _ 0 e)) in omega arith)
+      (λ e. let z = ap (λ (g : Filling). g .closed) (step.short task (placeOf f row holds) (eqb-false _ 0 e)) in omega arith)
+      (either (eqb (missingOf task (placeOf f row holds)) 0))
 
 -- ---- the turns
 
--- what `fill_on` is called with
+-- what `fill_on` is called with, its state settled
 pub record Asked : Type 0 where
   pub holds : List ℕ
   pub holders : List ℕ
@@ -67,6 +62,15 @@ rule a = plainly (at (a .holds)) (at (a .holders)) (a .task) (a .crews) (a .size
 abbrev pub answer : Asked → Filled
 answer a = filledOf (a .allowance) (a .spent) (search (ones (a .state .free)) (rule a) (a .state))
 
+-- what its contract says of a state not settled yet, where these units are spent
+abbrev pub promised : Asked → ℕ → Filling → Filled
+promised a units placed = filledOf (a .allowance) units (search (ones (placed .free)) (rule a) (closedWhere (a .task) placed))
+
+pub settled-answer : (a : Asked) (placed : Filling) → a .state ≡ closedWhere (a .task) placed → answer a ≡ promised a (a .spent) placed
+settled-answer a placed e =
+    ap (filledOf (a .allowance) (a .spent))
+    (ap₂ (λ (n : ℕ) (f : Filling). search n (rule a) f) (ap ones (ap (λ (f : Filling). f .free) e ∙ step.closed-free (a .task) placed)) e)
+
 -- the free rows that hold the lowest permission missing
 abbrev pub all : Asked → ℕ
 all a = bitAnd (at (a .holders) (trailingZeros 32 (missingOf (a .task) (a .state)))) (a .state .free)
@@ -78,19 +82,28 @@ deeper a g = search (ones (a .state .free) - 1) (rule a) g
 abbrev trying : Asked → List ℕ → Outcome
 trying a rows = tryEach (deeper a) (rule a) (a .state) rows
 
+-- what comes of a row's placement
+abbrev pub outcome : Asked → ℕ → ℕ → Filled
+outcome a units row = filledOf (a .allowance) (units + 1) (deeper a (placedOf (rule a) (a .state) row))
+
 pub record Going (a : Asked) (rest units : ℕ) : Type 0 where
+  pub few : a .crews ≤ crewLimit
+  pub unfinished : a .state .closed < a .crews
   pub wide : rest < 2 ^ 64
   pub own : Sub rest (a .state .free)
   pub within : units ≤ a .allowance
   pub same : answer a ≡ filledOf (a .allowance) units (trying a (members 0 64 rest))
 
-pub begun : (a : Asked) {rest : ℕ} → rest ≡ all a → rest < 2 ^ 64 → a .spent ≤ a .allowance → a .state .closed ≢ a .crews
-    → ones (crewOf (a .state)) < rule a .size → Going a rest (a .spent)
-begun a e w l n h =
+pub begun : (a : Asked) (placed : Filling) {rest : ℕ} → a .state ≡ closedWhere (a .task) placed
+    → Ready (a .task) (a .crews) placed (a .spent) (a .allowance) → rest ≡ all a → rest < 2 ^ 64 → a .state .closed ≢ a .crews
+    → ones (a .state .crew) < rule a .size → Going a rest (a .spent)
+begun a placed es r e w n h =
     record {
+      few = r .few;
+      unfinished = omega (arith, ap (λ (f : Filling). f .closed) es, r .closed, n);
       wide = w;
       own = λ i. omega (arith, ap (λ (x : ℕ). bit x i) e, bit-and (at (a .holders) (trailingZeros 32 (missingOf (a .task) (a .state)))) (a .state .free) i);
-      within = l;
+      within = r .within;
       same =
           ap (filledOf (a .allowance) (a .spent))
           (step.search-tries (at (a .holds)) (at (a .holders)) (a .task) (a .crews) (a .size) (a .state) n h
@@ -138,21 +151,8 @@ module _ {a : Asked} {rest units : ℕ} (g : Going a rest units) where
     pub spent-out : a .allowance ≤ units → record { ending = Undecided; crews = noCrews; units = a .allowance } ≡ answer a
     spent-out l = step.turn-spent (deeper a) (rule a) (a .state) row others (a .allowance) units (g .within) l ∙ sym first
 
-    -- the state after the placement
-    abbrev next : Filling
-    next = placed (a .task) (a .state) row (at (a .holds) row)
-
-    -- q is what the code has of it, and r what the call says of that
-    module _ {q : Filling} {r : Filled} (eq : q ≡ next) (e : r ≡ filledOf (a .allowance) (units + 1) (search (ones (q .free)) (rule a) q)) where
-      said : r ≡ filledOf (a .allowance) (units + 1) (deeper a (placedOf (rule a) (a .state) row))
-      said =
-          let n : ones (next .free) ≡ ones (a .state .free) - 1 = omega (arith, placed-falls (a .task) (a .state) row (at (a .holds) row) row-free) in
-          e
-          ∙ ap (λ (x : Filling). filledOf (a .allowance) (units + 1) (search (ones (x .free)) (rule a) x)) eq
-          ∙ ap (filledOf (a .allowance) (units + 1))
-          (ap₂ (λ (k : ℕ) (x : Filling). search k (rule a) x) n
-          (sym (step.placed-plainly (at (a .holds)) (at (a .holders)) (a .task) (a .crews) (a .size) (a .state) row)))
-
+    -- r is what comes of the row's placement
+    module _ {r : Filled} (said : r ≡ outcome a units row) where
       pub ended-here : r .ending ≢ Exhausted → r ≡ answer a
       ended-here v = step.turn-ended (deeper a) (rule a) (a .state) row others (a .allowance) units r said v ∙ sym first
 
@@ -161,8 +161,51 @@ module _ {a : Asked} {rest units : ℕ} (g : Going a rest units) where
           let t = step.turn-exhausted (deeper a) (rule a) (a .state) row others (a .allowance) units r said v in
           rw shifted
           (record {
+            few = g .few;
+            unfinished = g .unfinished;
             wide = drop-lt 64 rest row (g .wide) (least .has);
             own = λ i. omega (arith, drop-sub rest row (least .has) i, g .own i);
             within = t .1;
             same = first ∙ t .0;
           })
+
+    -- the state after the placement
+    abbrev next : Filling
+    next = placeOf (a .state) row (at (a .holds) row)
+
+    settled-next : placedOf (rule a) (a .state) row ≡ closedWhere (a .task) next
+    settled-next = step.placed-plainly (at (a .holds)) (at (a .holders)) (a .task) (a .crews) (a .size) (a .state) row
+
+    -- q is what the code has of that state
+    module _ {q : Filling} (eq : q ≡ next) where
+      -- it can be gone on from
+      pub next-ready : units < a .allowance → Ready (a .task) (a .crews) q (units + 1) (a .allowance)
+      next-ready l =
+          rw eq
+          (record {
+            few = g .few;
+            closed = omega (arith, g .unfinished, closed-next (a .state) row (at (a .holds) row) (a .task));
+            within = omega arith;
+          })
+
+      -- a row fewer is free
+      pub next-falls : ones (q .free) < ones (a .state .free)
+      next-falls = omega (arith, ap (λ (x : Filling). ones (x .free)) eq, placed-falls (a .state) row (at (a .holds) row) row-free)
+
+      -- a call says it
+      pub called : {r : Filled} → r ≡ promised a (units + 1) q → r ≡ outcome a units row
+      called e =
+          let n : ones (next .free) ≡ ones (a .state .free) - 1 = omega (arith, placed-falls (a .state) row (at (a .holds) row) row-free) in
+          e
+          ∙ ap (promised a (units + 1)) eq
+          ∙ ap (filledOf (a .allowance) (units + 1)) (ap₂ (λ (k : ℕ) (x : Filling). search k (rule a) x) n (sym settled-next))
+
+      -- the crew is full without covering: a unit, and nothing deeper
+      pub stuck-here : stuck (a .task) (a .size) q ≡ true → units < a .allowance → Going a (bitXor rest bitOf) (units + 1)
+      unfolding placeOf
+      stuck-here k l =
+          let x = step.stuck-is (a .task) next (a .size) (ap (stuck (a .task) (a .size)) (sym eq) ∙ k) in
+          exhausted-here
+          (step.says-exhausted (a .allowance) (units + 1) (deeper a (placedOf (rule a) (a .state) row))
+          (ap (deeper a) (settled-next ∙ step.short (a .task) next (x .0)) ∙ search-full (rule a) next _ (λ e. omega (arith, g .unfinished)) (x .1)) (omega arith))
+          refl

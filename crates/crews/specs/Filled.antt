@@ -3,6 +3,7 @@
 use mathlib.Core.Bool.{Bool, true, false}
 use mathlib.Core.List.{List, [], _∷_}
 use Prim.Native.Nat.{ℕ, zero, suc, _+_, _≤_}
+use lib.Count.{ones}
 use lib.Dec.{eqb, leb}
 use lib.ListN.{getD}
 use Rattle.roster.specs.declared.Verdict.{Verdict}
@@ -41,13 +42,21 @@ filledOf allowance spent o =
       | false ↦ filledWith Undecided noCrews allowance
     ]
 
--- the search from these free rows; a reply has no room for more crews than the limit, and none are looked for
+-- the search from these free rows; crews for no permission, and more of them than a reply has room for, are not looked for
 unfoldable pub foundFrom : Work → ℕ → Outcome
-foundFrom w free = elim (leb (w .crews) crewLimit) [ true ↦ searchFrom w free | false ↦ nothing ]
+foundFrom w free =
+    elim (leb 1 (w .task)) [
+      | true ↦ elim (leb (w .crews) crewLimit) [ true ↦ searchFrom w free | false ↦ nothing ]
+      | false ↦ nothing
+    ]
 
 -- "A crew that covers P is closed and the next begun."
 unfoldable pub closedWhere : ℕ → Filling → Filling
 closedWhere task f = elim (eqb (missingOf task f) 0) [ true ↦ closeOf f | false ↦ f ]
+
+-- the crew being filled is full without covering
+unfoldable pub stuck : ℕ → ℕ → Filling → Bool
+stuck task size f = elim (eqb (missingOf task f) 0) [ true ↦ false | false ↦ leb size (ones (f .crew)) ]
 
 -- the reply to a named absence that a filling comes to: the rows "crews", "none" and "undecided" of the table of replies
 abbrev pub verdictOf : Ending → Verdict
@@ -58,8 +67,8 @@ verdictOf Undecided = verdict.Undecided
 abbrev pub repliedOf : Filled → Reply
 repliedOf filled = record { verdict = verdictOf (filled .ending); crews = filled .crews; blocker = 0; units = filled .units }
 
--- What filling on from a half-filled state asks: there is room for another crew, and the allowance is not overspent.
-pub record Ready (crews : ℕ) (f : Filling) (spent allowance : ℕ) : Type 0 where
+-- What filling on from a placement asks: no more crews are closed than asked for, and the allowance is not overspent.
+pub record Ready (task crews : ℕ) (f : Filling) (spent allowance : ℕ) : Type 0 where
   pub few : crews ≤ crewLimit
-  pub closed : f .closed ≤ crews
+  pub closed : closedWhere task f .closed ≤ crews
   pub within : spent ≤ allowance

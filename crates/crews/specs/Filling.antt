@@ -6,7 +6,7 @@ use Prim.Native.Nat.{ℕ, zero, suc, _+_, _-_, _^_}
 use lib.Bits.{bitAnd, bitOr, bitXor}
 use lib.Count.{ones, trailingZeros}
 use lib.Dec.{eqb, leb}
-use lib.ListN.{getD, set}
+use lib.ListN.{set}
 use Rattle.sets.specs.Members.{members, filter, setOf, hasb}
 use Rattle.sets.specs.Sets.{minus}
 use Rattle.roster.specs.declared.Table.{Table}
@@ -42,11 +42,7 @@ complete crews = record { found = true; crews = crews; need = 0 }
 abbrev pub after : ℕ → Outcome → Outcome
 after n o = record { found = o .found; crews = o .crews; need = n + o .need }
 
--- the crew that is being filled
-abbrev pub crewOf : Filling → ℕ
-crewOf f = getD (f .crews) (f .closed) 0
-
--- the permissions of P not yet held there
+-- the permissions of P not yet held by the crew that is being filled
 abbrev pub missingOf : ℕ → Filling → ℕ
 missingOf task f = bitXor task (bitAnd task (f .held))
 
@@ -54,14 +50,16 @@ missingOf task f = bitXor task (bitAnd task (f .held))
 unfoldable pub placeOf : Filling → ℕ → ℕ → Filling
 placeOf f row h =
     record {
-      crews = set (f .crews) (f .closed) (bitOr (crewOf f) (2 ^ row));
+      crews = f .crews;
       closed = f .closed;
+      crew = bitOr (f .crew) (2 ^ row);
       free = bitXor (f .free) (2 ^ row);
       held = bitOr (f .held) h;
     }
 
 unfoldable pub closeOf : Filling → Filling
-closeOf f = record { crews = f .crews; closed = f .closed + 1; free = f .free; held = 0 }
+closeOf f =
+    record { crews = set (f .crews) (f .closed) (f .crew); closed = f .closed + 1; crew = 0; free = f .free; held = 0 }
 
 -- "A crew that covers P is closed and the next begun."
 unfoldable pub placedOf : Work → Filling → ℕ → Filling
@@ -77,7 +75,7 @@ placedOf w f row =
 unfoldable pub candidates : Work → Filling → List ℕ
 candidates w f =
     let all = members 0 rowLimit (bitAnd (w .holders (trailingZeros 32 (missingOf (w .task) f))) (f .free)) in
-    elim (eqb (crewOf f) 0) [ true ↦ filter (w .begins f) all | false ↦ all ]
+    elim (eqb (f .crew) 0) [ true ↦ filter (w .begins f) all | false ↦ all ]
 
 -- Each candidate in turn, by `deeper`, up to the first that leads to a complete list. "Every placement, also one that fills a crew without
 -- covering, is one unit."
@@ -98,7 +96,7 @@ search (suc n) w f =
     elim (eqb (f .closed) (w .crews)) [
       | true ↦ complete (f .crews)
       | false ↦
-          elim (leb (w .size) (ones (crewOf f))) [
+          elim (leb (w .size) (ones (f .crew))) [
             | true ↦ nothing
             | false ↦ tryEach (λ g. search n w g) w f (candidates w f)
           ]
@@ -106,7 +104,7 @@ search (suc n) w f =
 
 -- nothing is placed, and these rows are free
 abbrev pub begin : ℕ → Filling
-begin free = record { crews = noCrews; closed = 0; free = free; held = 0 }
+begin free = record { crews = noCrews; closed = 0; crew = 0; free = free; held = 0 }
 
 -- the whole search from these free rows
 abbrev pub searchFrom : Work → ℕ → Outcome

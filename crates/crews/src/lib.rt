@@ -7,20 +7,22 @@ use roster::Ruling;
 use roster::Table;
 use roster::Verdict;
 ghost use mathlib.Core.Path.{_≡_};
-ghost use Prim.Native.Nat.{_<_};
+ghost use Prim.Native.Nat.{_≤_, _<_};
 ghost use lib.Bits.{bitAnd, bitXor};
 ghost use lib.Count.{ones, trailingZeros};
 ghost use Rattle.roster.specs.Limits.{rowLimit, crewLimit};
 ghost use Rattle.crews.specs.Filling.{placeOf, closeOf, begin, search, plainly, holdsOf, holdersOf};
-ghost use Rattle.crews.specs.Filled.{tabulate, at, filledWith, filledOf, closedWhere, foundFrom, repliedOf, Ready};
+ghost use Rattle.crews.specs.Filled.{tabulate, at, filledWith, filledOf, closedWhere, stuck, foundFrom, repliedOf, Ready};
 ghost use Rattle.roster.specs.Replies.{noCrews};
 ghost use Rattle.crews.specs.declared.Ending.the-variants.{Complete};
 ghost use Rattle.crews.specs.Named.{NamedReply};
 
-// The half-filled crews: those closed and the one being filled, the rows neither absent nor placed, and what the crew being filled holds.
+// The half-filled crews: those closed, the one being filled, the rows neither absent nor placed, and what the crew being filled holds. That
+// one is a field of its own because it changes with each row: written into the array, the copy of the array that follows would wait for it.
 pub struct Filling {
     pub crews: [u64; Policy::CREWS],
     pub closed: usize,
+    pub crew: u64,
     pub free: u64,
     pub held: u32,
 }
@@ -32,11 +34,11 @@ pub enum Ending {
     Undecided,
 }
 
-// What filling comes to: the crews are all 0 unless it ends complete.
+// What filling comes to: the crews are all 0 unless it ends complete. The crews stand first so that they are copied in whole words.
 pub struct Filled {
-    pub ending: Ending,
     pub crews: [u64; Policy::CREWS],
     pub units: u32,
+    pub ending: Ending,
 }
 
 impl Filling {
@@ -48,6 +50,7 @@ impl Filling {
         Filling {
             crews: crews,
             closed: 0,
+            crew: 0,
             free: free,
             held: 0,
         }
@@ -55,45 +58,56 @@ impl Filling {
 
     // The row in the crew being filled, which then holds what the row holds.
     fn place(self, row: usize, holds: u32) -> Filling
-        requires { ⌜ (row < rowLimit) × (self .closed < crewLimit) ⌝ }
+        requires { ⌜ row < rowLimit ⌝ }
         ensures { λ r. ⌜ r ≡ placeOf self row holds ⌝ }
     {
-        let at = self.closed;
-        let mut crews = self.crews;
-        crews[at] = crews[at] | (1u64 << row);
+        let crews = self.crews;
         Filling {
             crews: crews,
-            closed: at,
+            closed: self.closed,
+            crew: self.crew | (1u64 << row),
             free: self.free ^ (1u64 << row),
             held: self.held | holds,
         }
     }
 
-    // The next crew begun.
+    // The crew being filled among those closed, and the next begun.
     fn close(self) -> Filling
         requires { ⌜ self .closed < crewLimit ⌝ }
         ensures { λ r. ⌜ r ≡ closeOf self ⌝ }
     {
-        let crews = self.crews;
+        let at = self.closed;
+        let mut crews = self.crews;
+        crews[at] = self.crew;
         Filling {
             crews: crews,
-            closed: self.closed + 1,
+            closed: at + 1,
+            crew: 0,
             free: self.free,
             held: 0,
         }
     }
 
-    // The row placed, and the crew closed where it now covers the task.
-    fn placed(self, row: usize, holds: u32, task: u32) -> Filling
-        requires { ⌜ (row < rowLimit) × (self .closed < crewLimit) ⌝ }
-        ensures { λ r. ⌜ r ≡ closedWhere task (placeOf self row holds) ⌝ }
+    // The crew being filled closed where it covers the task.
+    fn settled(self, task: u32) -> Filling
+        requires { ⌜ closedWhere task self .closed ≤ crewLimit ⌝ }
+        ensures { λ r. ⌜ r ≡ closedWhere task self ⌝ }
     {
-        let f = self.place(row, holds);
-        if missing(task, f.held) == 0 {
-            f.close()
+        if missing(task, self.held) == 0 {
+            self.close()
         } else {
-            f
+            self
         }
+    }
+
+    // Whether the crew being filled is full without covering: nothing further fits.
+    fn stuck(self, task: u32, size: u32) -> bool
+        ensures { λ r. ⌜ r ≡ stuck task size self ⌝ }
+    {
+        if missing(task, self.held) == 0 {
+            return false;
+        }
+        sets::size(self.crew) >= size
     }
 
     // The crews as a complete list.
@@ -102,9 +116,9 @@ impl Filling {
     {
         let crews = self.crews;
         Filled {
-            ending: Ending::Complete,
             crews: crews,
             units: units,
+            ending: Ending::Complete,
         }
     }
 }
@@ -115,9 +129,9 @@ impl Filled {
         ensures { λ r. ⌜ r ≡ filledWith ending noCrews units ⌝ }
     {
         Filled {
-            ending: ending,
             crews: [0; Policy::CREWS],
             units: units,
+            ending: ending,
         }
     }
 }
@@ -140,26 +154,26 @@ fn candidates(holders: &[u64], missing: u32, free: u64) -> u64
     holders[permission] & free
 }
 
-// How filling goes on from f, where `spent` units are spent already.
+// How filling goes on from a placement just made, where `spent` units are spent already. The crew is closed here and not where the row was
+// placed, so that the crews are copied once for each call.
 fn fill_on(
     holds: &[u32; Policy::ROWS],
     holders: &[u64; 32],
     task: u32,
     crews: usize,
     size: u32,
-    f: Filling,
+    placed: Filling,
     spent: u32,
     allowance: u32,
 ) -> Filled
-    requires { ⌜ Ready crews f spent allowance ⌝ }
-    ensures { λ r. ⌜ r ≡ filledOf allowance spent (search (ones (f .free)) (plainly (at (now (holds .entry))) (at (now (holders .entry))) task crews size) f) ⌝ }
+    requires { ⌜ Ready task crews placed spent allowance ⌝ }
+    ensures { λ r. ⌜ r ≡ filledOf allowance spent (search (ones (placed .free)) (plainly (at (now (holds .entry))) (at (now (holders .entry))) task crews size) (closedWhere task placed)) ⌝ }
 {
-    let list = f.crews;
-    let closed = f.closed;
-    if closed == crews {
+    let f = placed.settled(task);
+    if f.closed == crews {
         return f.complete(spent);
     }
-    if sets::size(list[closed]) >= size {
+    if sets::size(f.crew) >= size {
         return Filled::without_crews(Ending::Exhausted, spent);
     }
     let mut rest = candidates(holders, missing(task, f.held), f.free);
@@ -170,18 +184,23 @@ fn fill_on(
         }
         let row = sets::least(rest) as usize;
         rest = rest ^ (1u64 << row);
-        let g = f.placed(row, holds[row], task);
-        let filled = fill_on(holds, holders, task, crews, size, g, units + 1, allowance);
-        let ending = filled.ending;
-        let Ending::Exhausted = ending else {
-            return filled;
-        };
-        units = filled.units;
+        let g = f.place(row, holds[row]);
+        if g.stuck(task, size) {
+            units += 1;
+        } else {
+            let filled = fill_on(holds, holders, task, crews, size, g, units + 1, allowance);
+            let ending = filled.ending;
+            let Ending::Exhausted = ending else {
+                return filled;
+            };
+            units = filled.units;
+        }
     }
     Filled::without_crews(Ending::Exhausted, units)
 }
 
-// The crews filled from the free rows, where `spent` units are spent already. More crews than a reply has room for are not looked for.
+// The crews filled from the free rows, where `spent` units are spent already. Crews for no permission, and more of them than a reply has room
+// for, are not looked for.
 pub fn fill(
     holds: &[u32; Policy::ROWS],
     holders: &[u64; 32],
@@ -196,6 +215,9 @@ pub fn fill(
 {
     if spent > allowance {
         return Filled::without_crews(Ending::Undecided, allowance);
+    }
+    if task == 0 {
+        return Filled::without_crews(Ending::Exhausted, spent);
     }
     if crews > Policy::CREWS {
         return Filled::without_crews(Ending::Exhausted, spent);

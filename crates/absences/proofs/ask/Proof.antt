@@ -76,6 +76,7 @@ lends c = record {
   everyone = c .before .before .before .before .below .ensures
       ∙ below-within 64 _ (limits (c .before .before .before .before .before .before .before .before .before .before) .rows);
   few = limits (c .before .before .before .before .before .before .before .before .before .before) .few;
+  some = limits (c .before .before .before .before .before .before .before .before .before .before) .task;
   wide = c .before .before .before .before .before .before .before .before .before .before .before .before .before .fits .task .fits;
   held = c .before .before .before .before .before .before .before .before .before .holdings-within .ensures;
   holding = c .before .before .before .before .before .before .before .holders-of .ensures;

@@ -2,6 +2,7 @@
 -- the reply is that of `filling` under the allowance, and by exactness that is the one allowed (`allowed-by`). Assumes nothing.
 use mathlib.Core.Path.{_≡_, refl, sym, ap, ap₂, _∙_}
 use mathlib.Core.Bool.{Bool, false}
+use mathlib.Core.Logic.{_≢_}
 use mathlib.Core.List.{List}
 use Prim.Native.Nat.{ℕ, _-_, _^_, _≤_, _<_}
 use native.Mathlib.Nat.{zero-add}
@@ -57,14 +58,14 @@ module _ (table : Table) (P d t A allowance : ℕ) (wide : P < 2 ^ 32) (r : Repl
       ∙ ap (λ (crews : List ℕ). told false crews (outcome .need)) (search-none _ _ _ f))
 
 -- the search over what the calls handed back is the filling of the table
-same-filling : (table : Table) (P d t A : ℕ) → table .rows ≤ 64 → P < 2 ^ 32 → d ≤ 8
+same-filling : (table : Table) (P d t A : ℕ) → table .rows ≤ 64 → P ≢ 0 → P < 2 ^ 32 → d ≤ 8
     → (holds holders : List ℕ) (all : ℕ) → holds ≡ tabulate 64 (holdsOf table P) → holders ≡ tabulate 32 (holdersOf (at holds)) → all ≡ 2 ^ table .rows - 1
     → foundFrom (plainly (at holds) (at holders) P d t) (minus 64 all A) ≡ filling table P d t A
-same-filling table P d t A hr hP hd holds holders all eh ek ea =
+same-filling table P d t A hr hn hP hd holds holders all eh ek ea =
     ap (λ (x : ℕ). foundFrom (plainly (at holds) (at holders) P d t) (minus 64 x A)) ea
     ∙ ap (λ (k : List ℕ). foundFrom (plainly (at holds) (at k) P d t) (present table A)) ek
     ∙ ap (λ (h : List ℕ). foundFrom (plainly (at h) (at (tabulate 32 (holdersOf (at h)))) P d t) (present table A)) eh
-    ∙ lent-filling table P d t A hr hP hd
+    ∙ lent-filling table P d t A hr hn hP hd
 
 named-ruling-requires : tie.Need-named-ruling-requires
 named-ruling-requires c κs = search needs
@@ -107,7 +108,7 @@ returns-2 c =
     ∙ ap repliedOf
     (c .before .fill .ensures
     ∙ ap (filledOf (s .allowance) 0)
-    (same-filling (s .table) (s .task) (s .crews) (s .size) (s .absent) (k .rows) wide (k .few) (c .before .before .before .before .before .before .before .holdings-within .result)
+    (same-filling (s .table) (s .task) (s .crews) (s .size) (s .absent) (k .rows) (k .task) wide (k .few) (c .before .before .before .before .before .before .before .holdings-within .result)
     (c .before .before .before .before .before .holders-of .result) (c .before .before .below .result) (c .before .before .before .before .before .before .before .holdings-within .ensures) (c .before .before .before .before .before .holders-of .ensures)
     (c .before .before .below .ensures ∙ below-within 64 (s .table .rows) (k .rows)))))
 

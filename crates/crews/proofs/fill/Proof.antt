@@ -1,4 +1,5 @@
--- An allowance overspent is undecided whatever the outcome; past the limit nothing is looked for; else the search begins. Assumes nothing.
+-- An allowance overspent is undecided whatever the outcome; for no permission and past the limit nothing is looked for; else the search
+-- begins, with a crew that lacks the whole task. Assumes nothing.
 use mathlib.Core.Path.{sym, ap, _∙_}
 use native.Mathlib.Omega.{arith}
 use lib.Count.{ones}
@@ -6,8 +7,8 @@ use borrow.Author.Needs.{needs}
 use Rattle.crews.specs.declared.Filling.{Filling}
 use Rattle.crews.specs.Filling.{plainly}
 use Rattle.crews.specs.Filling as definition
-use Rattle.crews.specs.Filled.{at, filledOf, foundFrom}
-use Rattle.crews.specs.Laws.Steps.{filled-over, says-exhausted, found-few, found-many}
+use Rattle.crews.specs.Filled.{at, filledOf, closedWhere, foundFrom}
+use Rattle.crews.specs.Laws.Steps.{filled-over, says-exhausted, begun-short, found-few, found-many, found-idle}
 use Rattle.crews.proofs.fill.Statement.{statement}
 use Rattle.crews.proofs.fill.Tie as tie
 
@@ -28,22 +29,48 @@ returns-2 c =
     let s = c .before .before .before .args in
     let w = plainly (at (s .holds .now)) (at (s .holders .now)) (s .task) (s .crews) (s .size) in
     c .without-crews2 .ensures
-    ∙ says-exhausted (s .allowance) (s .spent) (foundFrom w (s .free)) (found-many w (s .free) (c .before .if2 .taken)) (omega (arith, c .before .before .if1 .left))
+    ∙ says-exhausted (s .allowance) (s .spent) (foundFrom w (s .free)) (found-idle w (s .free) (c .before .if2 .taken)) (omega (arith, c .before .before .if1 .left))
+
+without-crews-requires-3 : tie.Need-without-crews-requires-3
+without-crews-requires-3 c κs = search needs
+
+returns-3 : tie.Need-returns-3
+returns-3 c =
+    let s = c .before .before .before .before .args in
+    let w = plainly (at (s .holds .now)) (at (s .holders .now)) (s .task) (s .crews) (s .size) in
+    c .without-crews3 .ensures
+    ∙ says-exhausted (s .allowance) (s .spent) (foundFrom w (s .free)) (found-many w (s .free) (c .before .before .if2 .left) (c .before .if3 .taken))
+    (omega (arith, c .before .before .before .if1 .left))
 
 begin-requires : tie.Need-begin-requires
 begin-requires c κs = search needs
 
 fill-on-requires : tie.Need-fill-on-requires
 fill-on-requires c κs =
-    rw (c .begin .ensures) (record { few = c .before .if2 .left; closed = omega arith; within = c .before .before .if1 .left })
-
-returns-3 : tie.Need-returns-3
-returns-3 c =
     let s = c .before .before .before .before .args in
+    let e = ap (λ (f : Filling). f .closed) (begun-short (s .task) (s .free) (c .before .before .if2 .left)) in
+    rw (c .begin .ensures) (record { few = c .before .if3 .left; closed = omega (arith, e); within = c .before .before .before .if1 .left })
+
+returns-4 : tie.Need-returns-4
+returns-4 c =
+    let s = c .before .before .before .before .before .args in
     let w = plainly (at (s .holds .now)) (at (s .holders .now)) (s .task) (s .crews) (s .size) in
+    let some = c .before .before .before .if2 .left in
     c .fill-on .ensures
-    ∙ ap (λ (f : Filling). filledOf (s .allowance) (s .spent) (definition.search (ones (f .free)) w f)) (c .before .begin .ensures)
-    ∙ ap (filledOf (s .allowance) (s .spent)) (sym (found-few w (s .free) (c .before .before .if2 .left)))
+    ∙ ap (λ (f : Filling). filledOf (s .allowance) (s .spent) (definition.search (ones (f .free)) w (closedWhere (s .task) f))) (c .before .begin .ensures)
+    ∙ ap (λ (f : Filling). filledOf (s .allowance) (s .spent) (definition.search (ones (s .free)) w f)) (begun-short (s .task) (s .free) some)
+    ∙ ap (filledOf (s .allowance) (s .spent)) (sym (found-few w (s .free) some (c .before .before .if3 .left)))
 
 pub fill-spec : {M : Type 1} → statement M
-fill-spec = tie.close (tie.spec without-crews-requires returns without-crews-requires-2 returns-2 begin-requires fill-on-requires returns-3)
+fill-spec =
+    tie.close
+    (tie.spec
+    without-crews-requires
+    returns
+    without-crews-requires-2
+    returns-2
+    without-crews-requires-3
+    returns-3
+    begin-requires
+    fill-on-requires
+    returns-4)

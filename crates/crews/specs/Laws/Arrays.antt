@@ -2,6 +2,7 @@
 -- and what is read out of that table is the function, past its end too. Assumes nothing.
 use mathlib.Core.Path.{_≡_, refl, sym, ap, ap₂, _∙_, fun-ext}
 use mathlib.Core.Bool.{Bool}
+use mathlib.Core.Logic.{_≢_}
 use mathlib.Core.List.{List}
 use Prim.Native.Nat.{ℕ, zero, suc, _+_, _^_, _≤_, _<_}
 use native.Mathlib.Decide.{decLt, ℕ-discrete}
@@ -132,9 +133,9 @@ lent-work table P d t hr hP =
     (ap (λ (holds : ℕ → ℕ). at (tabulate 32 (holdersOf holds))) e ∙ lent-holders (holdsOf table P) (λ u. holds-lt table P u hP))
 
 -- and so is the filling from the rows that are not absent
-pub lent-filling : (table : Table) (P d t A : ℕ) → table .rows ≤ 64 → P < 2 ^ 32 → d ≤ 8
+pub lent-filling : (table : Table) (P d t A : ℕ) → table .rows ≤ 64 → P ≢ 0 → P < 2 ^ 32 → d ≤ 8
     → foundFrom
     (plainly (at (tabulate 64 (holdsOf table P))) (at (tabulate 32 (holdersOf (at (tabulate 64 (holdsOf table P)))))) P d t) (present table A)
     ≡ filling table P d t A
-lent-filling table P d t A hr hP hd =
-    ap (λ (w : Work). foundFrom w (present table A)) (lent-work table P d t hr hP) ∙ found-few (workOf table P d t) (present table A) hd
+lent-filling table P d t A hr hn hP hd =
+    ap (λ (w : Work). foundFrom w (present table A)) (lent-work table P d t hr hP) ∙ found-few (workOf table P d t) (present table A) hn hd

@@ -16,9 +16,9 @@ use Rattle.sets.specs.Sets.{sub-of-has, sub-lt, has-of-sub, missing-lt, missing
 use Rattle.sets.specs.Laws.Sums.{either}
 use Rattle.roster.specs.Limits.{rowLimit, crewLimit}
 use Rattle.crews.specs.declared.Filling.{Filling}
-use Rattle.crews.specs.Filling.{Work, Outcome, crewOf, missingOf, placeOf, closeOf, candidates, search, begin}
+use Rattle.crews.specs.Filling.{Work, Outcome, missingOf, placeOf, closeOf, candidates, search, begin}
 use Rattle.crews.specs.Laws.Search.{lowestOf, putOf, placed-is, Tried, among, try-finds, search-done, search-open}
-use Rattle.crews.specs.Laws.Sound.{crew, Shape, Held, here, shape-put, shape-close, shape-begin, unfinished}
+use Rattle.crews.specs.Laws.Sound.{Shape, Held, shape-put, shape-close, shape-begin, unfinished}
 
 pub same-or-not : (m n : ℕ) → (m ≡ n) ⊎ (m ≢ n)
 same-or-not m n = ⊎-elim (λ e. inl (eqb-true m n e)) (λ e. inr (eqb-false m n e)) (either (eqb m n))
@@ -49,9 +49,9 @@ module _ (w : Work) (F : ℕ) (T : ℕ → ℕ) (r : Ready w F) (t : Solves w F 
   record Part (f : Filling) (n : ℕ) : Type 0 where
     shape : Shape w f
     free : Sub (f .free) F
-    sub : (u : ℕ) → Has (crewOf f) u → Has (T (f .closed)) u
-    left : (j u : ℕ) → f .closed ≤ j → j < w .crews → Has (T j) u → Has (f .free) u ⊎ ((j ≡ f .closed) × Has (crewOf f) u)
-    held : (u p : ℕ) → Has (crewOf f) u → Has (w .holds u) p → Has (f .held) p
+    sub : (u : ℕ) → Has (f .crew) u → Has (T (f .closed)) u
+    left : (j u : ℕ) → f .closed ≤ j → j < w .crews → Has (T j) u → Has (f .free) u ⊎ ((j ≡ f .closed) × Has (f .crew) u)
+    held : (u p : ℕ) → Has (f .crew) u → Has (w .holds u) p → Has (f .held) p
     lacking : missingOf (w .task) f ≢ 0
     fuel : ones (f .free) ≤ n
 
@@ -68,7 +68,7 @@ module _ (w : Work) (F : ℕ) (T : ℕ → ℕ) (r : Ready w F) (t : Solves w F 
         mine = mine;
         tried = record {
           going = c;
-          room = omega (arith, ones-with (crewOf f) row out, ones-sub (with (crewOf f) row) (T (f .closed)) grown, t .small (f .closed) l);
+          room = omega (arith, ones-with (f .crew) row out, ones-sub (with (f .crew) row) (T (f .closed)) grown, t .small (f .closed) l);
           candidate = record {
             below = bit-below (f .free) rowLimit row (sub-lt rowLimit (f .free) F (a .free) (r .rows)) free-row;
             holder = r .holders (lowestOf w f) row (has-of-sub (f .free) F (a .free) row free-row) (x .2);
@@ -95,16 +95,16 @@ module _ (w : Work) (F : ℕ) (T : ℕ → ℕ) (r : Ready w F) (t : Solves w F 
       mine = x .1
 
       -- what the crew has, it holds, and this is missing
-      out : bit (crewOf f) row ≡ 0
-      out = ⊎-elim (λ z. z) (λ o. absurd (omega (arith, a .held row (lowestOf w f) o (x .2), lowest .1))) (digit (crewOf f) row)
+      out : bit (f .crew) row ≡ 0
+      out = ⊎-elim (λ z. z) (λ o. absurd (omega (arith, a .held row (lowestOf w f) o (x .2), lowest .1))) (digit (f .crew) row)
 
       free-row : Has (f .free) row
       free-row = ⊎-elim (λ h. h) (λ h. absurd (omega (arith, h .1, out))) (a .left (f .closed) row (omega arith) l mine)
 
-      grown : Sub (with (crewOf f) row) (T (f .closed))
+      grown : Sub (with (f .crew) row) (T (f .closed))
       grown =
-          sub-of-has (with (crewOf f) row) (T (f .closed)) (λ u q.
-          ⊎-elim (λ h. a .sub u h) (λ h. ap (bit (T (f .closed))) (pow-in row u h) ∙ mine) (or-in (crewOf f) (2 ^ row) u q))
+          sub-of-has (with (f .crew) row) (T (f .closed)) (λ u q.
+          ⊎-elim (λ h. a .sub u h) (λ h. ap (bit (T (f .closed))) (pow-in row u h) ∙ mine) (or-in (f .crew) (2 ^ row) u q))
 
   module _ (f : Filling) (n : ℕ) (a : Part f (suc n)) (row : ℕ) (mine : Has (T (f .closed)) row) (k : Tried w f row) where
     going : f .closed < w .crews
@@ -113,13 +113,9 @@ module _ (w : Work) (F : ℕ) (T : ℕ → ℕ) (r : Ready w F) (t : Solves w F 
     free-row : Has (f .free) row
     free-row = k .candidate .free
 
-    joined : crew (putOf w f row) (f .closed) ≡ with (crewOf f) row
-    joined = here f row (w .holds row) (omega (arith, a .shape .eight, going, r .few))
-
     -- who is in the crew being filled then
-    was : (u : ℕ) → Has (crew (putOf w f row) (f .closed)) u → Has (crewOf f) u ⊎ (u ≡ row)
-    was u q =
-        ⊎-elim inl (λ h. inr (pow-in row u h)) (or-in (crewOf f) (2 ^ row) u (sym (ap (λ (x : ℕ). bit x u) joined) ∙ q))
+    was : (u : ℕ) → Has (with (f .crew) row) u → Has (f .crew) u ⊎ (u ≡ row)
+    was u q = ⊎-elim inl (λ h. inr (pow-in row u h)) (or-in (f .crew) (2 ^ row) u q)
 
     fewer : ones (bitXor (f .free) (2 ^ row)) ≤ n
     fewer = omega (arith, ones-drop (f .free) row free-row, a .fuel)
@@ -132,7 +128,7 @@ module _ (w : Work) (F : ℕ) (T : ℕ → ℕ) (r : Ready w F) (t : Solves w F 
     unfolding placeOf
     kept lack =
         record {
-          shape = shape-put w f row (a .shape) going;
+          shape = shape-put w f row (a .shape);
           free = λ u. omega (arith, drop-sub (f .free) row free-row u, a .free u);
           sub = λ u q. ⊎-elim (λ h. a .sub u h) (λ h. ap (bit (T (f .closed))) h ∙ mine) (was u q);
           left = λ j u l m q. go j u l m q (ℕ-discrete row u);
@@ -146,16 +142,16 @@ module _ (w : Work) (F : ℕ) (T : ℕ → ℕ) (r : Ready w F) (t : Solves w F 
         }
       where
         go : (j u : ℕ) → f .closed ≤ j → j < w .crews → Has (T j) u → Dec (row ≡ u)
-            → Has (bitXor (f .free) (2 ^ row)) u ⊎ ((j ≡ f .closed) × Has (crew (putOf w f row) (f .closed)) u)
+            → Has (bitXor (f .free) (2 ^ row)) u ⊎ ((j ≡ f .closed) × Has (with (f .crew) row) u)
         go j u l m q (yes e) =
             inr (
               t .apart j (f .closed) u m going q (ap (bit (T (f .closed))) (sym e) ∙ mine),
-              ap (λ (x : ℕ). bit x u) joined ∙ ap (bit (with (crewOf f) row)) (sym e) ∙ bit-with-same (crewOf f) row,
+              ap (bit (with (f .crew) row)) (sym e) ∙ bit-with-same (f .crew) row,
             )
         go j u l m q (no e) =
             ⊎-elim
             (λ h. inl (still u h e))
-            (λ h. inr (h .0, ap (λ (x : ℕ). bit x u) joined ∙ or-in-l (crewOf f) (2 ^ row) u (h .1)))
+            (λ h. inr (h .0, or-in-l (f .crew) (2 ^ row) u (h .1)))
             (a .left j u l m q)
 
     -- it covers, and is closed
@@ -163,24 +159,18 @@ module _ (w : Work) (F : ℕ) (T : ℕ → ℕ) (r : Ready w F) (t : Solves w F 
     unfolding placeOf closeOf
     shut =
         record {
-          shape = shape-close w (putOf w f row) (shape-put w f row (a .shape) going) going;
+          shape = shape-close w (putOf w f row) (shape-put w f row (a .shape)) going;
           free = λ u. omega (arith, drop-sub (f .free) row free-row u, a .free u);
-          sub = λ u q. absurd (nobody u q);
+          sub = λ u q. absurd (omega (arith, bit-none u));
           left = λ j u l m q.
               inl (⊎-elim
               (λ h. still u h (λ e. absurd (let z = t .apart j (f .closed) u m going q (ap (bit (T (f .closed))) (sym e) ∙ mine) in omega arith)))
               (λ h. absurd (let z = h .0 in omega arith))
               (a .left j u (omega arith) m q));
-          held = λ u p q. absurd (nobody u q);
+          held = λ u p q. absurd (omega (arith, bit-none u));
           lacking = λ e. r .some (sym (missing-all (w .task)) ∙ e);
           fuel = fewer;
         }
-      where
-        begun : crew (putOf w f row) (f .closed + 1) ≡ 0
-        begun = shape-put w f row (a .shape) going .later (f .closed + 1) (omega arith)
-
-        nobody : (u : ℕ) → Has (crew (putOf w f row) (f .closed + 1)) u → ⊥
-        nobody u q = omega (arith, ap (λ (x : ℕ). bit x u) begun, bit-none u)
 
   -- with n placements to go the search finds a list
   finds : (n : ℕ) (f : Filling) → Part f n → search n w f .found ≡ true

@@ -18,7 +18,7 @@ use Rattle.sets.specs.Laws.Members.{has-of-mem, mem-of-has, filter-members}
 use Rattle.roster.specs.Limits.{rowLimit}
 use Rattle.roster.specs.Replies.{noCrews}
 use Rattle.crews.specs.declared.Filling.{Filling}
-use Rattle.crews.specs.Filling.{Work, Outcome, nothing, complete, crewOf, missingOf, placeOf, closeOf, placedOf, candidates, tryEach, search}
+use Rattle.crews.specs.Filling.{Work, Outcome, nothing, complete, missingOf, placeOf, closeOf, placedOf, candidates, tryEach, search}
 
 -- the lowest permission of P not yet held by the crew being filled
 abbrev pub lowestOf : Work → Filling → ℕ
@@ -71,11 +71,11 @@ module _ (w : Work) (f : Filling) where
   abbrev all : ℕ
   all = bitAnd (w .holders (lowestOf w f)) (f .free)
 
-  begun : eqb (crewOf f) 0 ≡ true → candidates w f ≡ members 0 rowLimit (bitAnd (setOf rowLimit (w .begins f)) all)
+  begun : eqb (f .crew) 0 ≡ true → candidates w f ≡ members 0 rowLimit (bitAnd (setOf rowLimit (w .begins f)) all)
   unfolding candidates
   begun e = rw (e, candidates) (filter-members (w .begins f) rowLimit all)
 
-  going : eqb (crewOf f) 0 ≡ false → candidates w f ≡ members 0 rowLimit all
+  going : eqb (f .crew) 0 ≡ false → candidates w f ≡ members 0 rowLimit all
   unfolding candidates
   going e = rw (e, candidates)
 
@@ -91,7 +91,7 @@ module _ (w : Work) (f : Filling) where
       let x = has-of-mem rowLimit (bitAnd (setOf rowLimit (w .begins f)) all) row (rw (begun e) at m) in
       is-candidate row (x .0) (and-in (setOf rowLimit (w .begins f)) all row (x .1) .1))
       (λ e. let x = has-of-mem rowLimit all row (rw (going e) at m) in is-candidate row (x .0) (x .1))
-      (either (eqb (crewOf f) 0))
+      (either (eqb (f .crew) 0))
 
   -- every one is among them that may begin a crew
   pub among : (row : ℕ) → Candidate w f row → w .begins f row ≡ true → List·Memᴰ row (candidates w f)
@@ -103,7 +103,7 @@ module _ (w : Work) (f : Filling) where
       rw (begun e)
       (mem-of-has rowLimit (bitAnd (setOf rowLimit (w .begins f)) all) row (c .below) (in-and (setOf rowLimit (w .begins f)) all row s h)))
       (λ e. rw (going e) (mem-of-has rowLimit all row (c .below) h))
-      (either (eqb (crewOf f) 0))
+      (either (eqb (f .crew) 0))
 
 -- ---- one candidate after another
 
@@ -160,12 +160,12 @@ module _ (w : Work) (f : Filling) where
   unfolding search
   search-out e = rw (ne-eqb _ _ e, search)
 
-  pub search-full : (n : ℕ) → f .closed ≢ w .crews → w .size ≤ ones (crewOf f) → search n w f ≡ nothing
+  pub search-full : (n : ℕ) → f .closed ≢ w .crews → w .size ≤ ones (f .crew) → search n w f ≡ nothing
   unfolding search
   search-full zero e h = rw (ne-eqb _ _ e, search)
   search-full (suc n) e h = rw (ne-eqb _ _ e, le-leb _ _ h, search)
 
-  pub search-open : (n : ℕ) → f .closed ≢ w .crews → ones (crewOf f) < w .size
+  pub search-open : (n : ℕ) → f .closed ≢ w .crews → ones (f .crew) < w .size
       → search (suc n) w f ≡ tryEach (λ g. search n w g) w f (candidates w f)
   unfolding search
   search-open n e h = rw (ne-eqb _ _ e, lt-leb _ _ h, search)
@@ -174,7 +174,7 @@ module _ (w : Work) (f : Filling) where
   pub search-is : (Q : Outcome → Type 0) (n : ℕ)
       → (f .closed ≡ w .crews → Q (complete (f .crews)))
       → (f .closed ≢ w .crews → Q nothing)
-      → ((m : ℕ) → n ≡ suc m → f .closed ≢ w .crews → ones (crewOf f) < w .size → Q (tryEach (λ g. search m w g) w f (candidates w f)))
+      → ((m : ℕ) → n ≡ suc m → f .closed ≢ w .crews → ones (f .crew) < w .size → Q (tryEach (λ g. search m w g) w f (candidates w f)))
       → Q (search n w f)
   search-is Q zero done none each =
       ⊎-elim
@@ -189,7 +189,7 @@ module _ (w : Work) (f : Filling) where
       ⊎-elim
       (λ l. subst Q (sym (search-full (suc n) c (leb-true _ _ l))) (none c))
       (λ l. subst Q (sym (search-open n c (leb-false _ _ l))) (each n refl c (leb-false _ _ l)))
-      (either (leb (w .size) (ones (crewOf f)))))
+      (either (leb (w .size) (ones (f .crew)))))
       (either (eqb (f .closed) (w .crews)))
 
 -- where no list is found, no crew is given
@@ -205,7 +205,7 @@ search-none n w f =
 -- a row that is tried: a candidate for a crew that is not full, of a list that is not complete
 pub record Tried (w : Work) (f : Filling) (row : ℕ) : Type 0 where
   pub going : f .closed ≢ w .crews
-  pub room : ones (crewOf f) < w .size
+  pub room : ones (f .crew) < w .size
   pub candidate : Candidate w f row
 
 -- Inv holds of each state that the search reaches, and so Q of the crews that it ends with.
@@ -214,7 +214,7 @@ module _ (w : Work) (Inv : Filling → Type 0) (Q : List ℕ → Type 0)
     (done : (f : Filling) → Inv f → f .closed ≡ w .crews → Q (f .crews)) where
   -- one placement deeper, where it is known of the deeper searches
   keeps-each : (m : ℕ) → ((g : Filling) → Inv g → search m w g .found ≡ true → Q (search m w g .crews))
-      → (f : Filling) → Inv f → f .closed ≢ w .crews → ones (crewOf f) < w .size
+      → (f : Filling) → Inv f → f .closed ≢ w .crews → ones (f .crew) < w .size
       → tryEach (λ g. search m w g) w f (candidates w f) .found ≡ true → Q (tryEach (λ g. search m w g) w f (candidates w f) .crews)
   keeps-each m deeper f i e l h =
       let x = try-from (λ g. search m w g) w f (candidates w f) h in

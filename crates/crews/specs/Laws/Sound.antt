@@ -1,7 +1,7 @@
 -- What the search ends with is a crew list, whichever rows may begin a crew and whenever one that covers may close; and the crews are eight
 -- sets of which those past d are 0. Each is an invariant of a placement (`search-keeps`). Assumes nothing.
 use mathlib.Core.Path.{_≡_, refl, sym, ap, _∙_, subst}
-use mathlib.Core.Bool.{true}
+use mathlib.Core.Bool.{true, false}
 use mathlib.Core.Logic.{_⊎_, inl, inr, ⊎-elim, _≢_}
 use mathlib.Core.List.{List}
 use Prim.Native.Nat.{ℕ, zero, suc, _+_, _-_, _^_, _≤_, _<_}
@@ -10,8 +10,10 @@ use native.Mathlib.Nat.{lt-of-lt-of-le}
 use native.Mathlib.Omega.{arith}
 use lib.Bits.{bitOr, bitXor}
 use lib.Count.{ones}
-use lib.ListN.{length, getD, take, replicate, length-set}
+use lib.Dec.{eqb}
+use lib.ListN.{length, getD, set, take, replicate, length-set}
 use lib.Pow.{pow-mono, pow-pos}
+use borrow.Author.Tests.{eq-eqb, ne-eqb}
 use lib.Seq.{getD-set-same, getD-set-other, getD-take, length-take-le}
 use Rattle.sets.specs.Sets.{bit, Has, Sub, Apart, with, bit-le, bit-none, bit-below, bit-and, bit-minus, bit-full, digit, or-in, or-in-l, pow-in, bit-with-same}
 use Rattle.sets.specs.Sets.{lt-of-bits, ones-none, ones-with, apart-of-has, sub-of-missing, has-of-sub, bit-drop-same, drop-sub}
@@ -21,45 +23,28 @@ use Rattle.roster.specs.Limits.{rowLimit, crewLimit}
 use Rattle.roster.specs.Meaning.{held, Covers, CrewList}
 use Rattle.roster.specs.Replies.{noCrews}
 use Rattle.crews.specs.declared.Filling.{Filling}
-use Rattle.crews.specs.Filling.{Work, crewOf, missingOf, placeOf, closeOf, placedOf, search, begin, present}
+use Rattle.crews.specs.Filling.{Work, missingOf, placeOf, closeOf, placedOf, search, begin, present}
 use Rattle.crews.specs.Laws.Search.{putOf, placed-is, Tried, search-none, search-keeps}
 
--- the crew at place j
-abbrev pub crew : Filling → ℕ → ℕ
-crew f j = getD (f .crews) j 0
-
--- ---- the shape of the half-filled crews: eight, none past d, and none past the one being filled
+-- ---- the shape of the half-filled crews: room for eight, and none stored that is not closed
 
 pub record Shape (w : Work) (f : Filling) : Type 0 where
   pub eight : length (f .crews) ≡ crewLimit
   pub closed : f .closed ≤ w .crews
-  pub past : (j : ℕ) → w .crews ≤ j → crew f j ≡ 0
-  pub later : (j : ℕ) → f .closed < j → crew f j ≡ 0
+  pub later : (j : ℕ) → f .closed ≤ j → getD (f .crews) j 0 ≡ 0
 
--- a crew that is not being filled is left alone
-pub there : (f : Filling) (row h j : ℕ) → j ≢ f .closed → crew (placeOf f row h) j ≡ crew f j
+pub shape-put : (w : Work) (f : Filling) (row : ℕ) → Shape w f → Shape w (putOf w f row)
 unfolding placeOf
-there f row h j n = getD-set-other (f .crews) (f .closed) j (bitOr (crewOf f) (2 ^ row)) 0 n
-
--- the one being filled has the row then
-pub here : (f : Filling) (row h : ℕ) → f .closed < length (f .crews) → crew (placeOf f row h) (f .closed) ≡ with (crewOf f) row
-unfolding placeOf
-here f row h l = getD-set-same (f .crews) (f .closed) (bitOr (crewOf f) (2 ^ row)) 0 l
-
-pub shape-put : (w : Work) (f : Filling) (row : ℕ) → Shape w f → f .closed < w .crews → Shape w (putOf w f row)
-unfolding placeOf
-shape-put w f row s l =
-    record {
-      eight = length-set (f .crews) (f .closed) (bitOr (crewOf f) (2 ^ row)) ∙ s .eight;
-      closed = s .closed;
-      past = λ j h. there f row (w .holds row) j (λ e. omega arith) ∙ s .past j h;
-      later = λ j h. there f row (w .holds row) j (λ e. omega arith) ∙ s .later j h;
-    }
+shape-put w f row s = record { eight = s .eight; closed = s .closed; later = s .later }
 
 pub shape-close : (w : Work) (f : Filling) → Shape w f → f .closed < w .crews → Shape w (closeOf f)
 unfolding closeOf
 shape-close w f s l =
-    record { eight = s .eight; closed = omega arith; past = s .past; later = λ j h. s .later j (omega arith) }
+    record {
+      eight = length-set (f .crews) (f .closed) (f .crew) ∙ s .eight;
+      closed = omega arith;
+      later = λ j h. getD-set-other (f .crews) (f .closed) j (f .crew) 0 (λ e. omega arith) ∙ s .later j (omega arith);
+    }
 
 zeros-at : (n j : ℕ) → _≡_ {A = ℕ} (getD (replicate n 0) j 0) 0
 zeros-at zero j = refl
@@ -71,7 +56,7 @@ none-at j = zeros-at crewLimit j
 
 pub shape-begin : (w : Work) (F : ℕ) → Shape w (begin F)
 shape-begin w F =
-    record { eight = refl; closed = omega arith; past = λ j h. none-at j; later = λ j h. none-at j }
+    record { eight = refl; closed = omega arith; later = λ j h. none-at j }
 
 -- a list that is tried further is not complete
 pub unfinished : (w : Work) (f : Filling) → Shape w f → f .closed ≢ w .crews → f .closed < w .crews
@@ -81,7 +66,7 @@ shape-placed : (w : Work) (f : Filling) (row : ℕ) → Shape w f → Tried w f 
 unfolding placeOf
 shape-placed w f row s k =
     let l = unfinished w f s (k .going) in
-    placed-is w f row (Shape w) (λ z. shape-close w (putOf w f row) (shape-put w f row s l) l) (λ z. shape-put w f row s l)
+    placed-is w f row (Shape w) (λ z. shape-close w (putOf w f row) (shape-put w f row s) l) (λ z. shape-put w f row s)
 
 -- "Crews are eight sets; those past d are 0."
 pub record Eight (d : ℕ) (crews : List ℕ) : Type 0 where
@@ -92,10 +77,38 @@ pub eight : (n : ℕ) (w : Work) (F : ℕ) → Eight (w .crews) (search n w (beg
 eight n w F =
     ⊎-elim
     (λ e.
-    search-keeps w (Shape w) (Eight (w .crews)) (λ f row s k. shape-placed w f row s k) (λ f s c. record { many = s .eight; past = s .past }) n
+    search-keeps w (Shape w) (Eight (w .crews)) (λ f row s k. shape-placed w f row s k) (λ f s c. record { many = s .eight; past = λ j h. s .later j (omega arith) }) n
     (begin F) (shape-begin w F) e)
     (λ e. subst (Eight (w .crews)) (sym (search-none n w (begin F) e)) (record { many = refl; past = λ j h. none-at j }))
     (either (search n w (begin F) .found))
+
+-- ---- the crew at each place: the one being filled follows those that are closed
+
+unfoldable pub crew : Filling → ℕ → ℕ
+crew f j = elim (eqb j (f .closed)) [ true ↦ f .crew | false ↦ getD (f .crews) j 0 ]
+
+module _ (f : Filling) where
+  filled-at : (j : ℕ) → j ≡ f .closed → crew f j ≡ f .crew
+  unfolding crew
+  filled-at j e = rw (eq-eqb j (f .closed) e, crew)
+
+  closed-at : (j : ℕ) → j ≢ f .closed → crew f j ≡ getD (f .crews) j 0
+  unfolding crew
+  closed-at j n = rw (ne-eqb j (f .closed) n, crew)
+
+-- closing a crew leaves each at its place
+close-at : (w : Work) (f : Filling) → Shape w f → f .closed < crewLimit → (j : ℕ) → crew (closeOf f) j ≡ crew f j
+unfolding closeOf
+close-at w f s l j = go (ℕ-discrete j (f .closed)) (ℕ-discrete j (f .closed + 1))
+  where
+    go : Dec (j ≡ f .closed) → Dec (j ≡ f .closed + 1) → crew (closeOf f) j ≡ crew f j
+    go (yes e) _ =
+        closed-at (closeOf f) j (λ z. omega arith) ∙ ap (λ (i : ℕ). getD (set (f .crews) (f .closed) (f .crew)) i 0) e
+        ∙ getD-set-same (f .crews) (f .closed) (f .crew) 0 (omega (arith, s .eight)) ∙ sym (filled-at f j e)
+    go (no n) (yes e) =
+        filled-at (closeOf f) j e ∙ sym (s .later j (omega arith)) ∙ sym (closed-at f j n)
+    go (no n) (no m) =
+        closed-at (closeOf f) j m ∙ getD-set-other (f .crews) (f .closed) j (f .crew) 0 n ∙ sym (closed-at f j n)
 
 -- ---- what each state that the search reaches has of a crew list, where F are the rows that were free at first
 
@@ -109,15 +122,20 @@ pub record State (w : Work) (F : ℕ) (f : Filling) : Type 0 where
   pub placed : (j u : ℕ) → Has (crew f j) u → Has F u × (bit (f .free) u ≡ 0)
   pub apart : (i j u : ℕ) → Has (crew f i) u → Has (crew f j) u → i ≡ j
   pub small : (j : ℕ) → ones (crew f j) ≤ w .size
-  pub held : (p : ℕ) → Has (f .held) p → (u : ℕ) × Has (crewOf f) u × Has (w .holds u) p
+  pub held : (p : ℕ) → Has (f .held) p → (u : ℕ) × Has (f .crew) u × Has (w .holds u) p
   pub whole : (j : ℕ) → j < f .closed → Held w (crew f j)
 
 module _ (w : Work) (few : w .crews ≤ crewLimit) (F : ℕ) (f : Filling) (row : ℕ) (s : State w F f) (k : Tried w f row) where
   going : f .closed < w .crews
   going = unfinished w f (s .shape) (k .going)
 
-  joined : crew (putOf w f row) (f .closed) ≡ with (crewOf f) row
-  joined = here f row (w .holds row) (omega (arith, s .shape .eight, going))
+  joined : (j : ℕ) → j ≡ f .closed → crew (putOf w f row) j ≡ with (f .crew) row
+  unfolding placeOf
+  joined j e = filled-at (putOf w f row) j e
+
+  there : (j : ℕ) → j ≢ f .closed → crew (putOf w f row) j ≡ crew f j
+  unfolding placeOf
+  there j n = closed-at (putOf w f row) j n ∙ sym (closed-at f j n)
 
   free-row : Has (f .free) row
   free-row = k .candidate .free
@@ -128,21 +146,18 @@ module _ (w : Work) (few : w .crews ≤ crewLimit) (F : ℕ) (f : Filling) (row 
     where
       go : Dec (j ≡ f .closed) → Has (crew f j) u ⊎ ((j ≡ f .closed) × (u ≡ row))
       go (yes e) =
-          ⊎-elim (λ h. inl (ap (λ (x : ℕ). bit (crew f x) u) e ∙ h)) (λ h. inr (e, pow-in row u h))
-          (or-in (crewOf f) (2 ^ row) u (sym (ap (λ (x : ℕ). bit x u) (ap (crew (putOf w f row)) e ∙ joined)) ∙ q))
-      go (no n) = inl (sym (ap (λ (x : ℕ). bit x u) (there f row (w .holds row) j n)) ∙ q)
+          ⊎-elim (λ h. inl (ap (λ (x : ℕ). bit x u) (filled-at f j e) ∙ h)) (λ h. inr (e, pow-in row u h))
+          (or-in (f .crew) (2 ^ row) u (sym (ap (λ (x : ℕ). bit x u) (joined j e)) ∙ q))
+      go (no n) = inl (sym (ap (λ (x : ℕ). bit x u) (there j n)) ∙ q)
 
   stays : (j u : ℕ) → Has (crew f j) u → Has (crew (putOf w f row) j) u
   stays j u q = go (ℕ-discrete j (f .closed))
     where
       go : Dec (j ≡ f .closed) → Has (crew (putOf w f row) j) u
       go (yes e) =
-          ap (λ (x : ℕ). bit x u) (ap (crew (putOf w f row)) e ∙ joined)
-          ∙ or-in-l (crewOf f) (2 ^ row) u (ap (λ (x : ℕ). bit (crew f x) u) (sym e) ∙ q)
-      go (no n) = ap (λ (x : ℕ). bit x u) (there f row (w .holds row) j n) ∙ q
-
-  joins : Has (crew (putOf w f row) (f .closed)) row
-  joins = ap (λ (x : ℕ). bit x row) joined ∙ bit-with-same (crewOf f) row
+          ap (λ (x : ℕ). bit x u) (joined j e)
+          ∙ or-in-l (f .crew) (2 ^ row) u (ap (λ (x : ℕ). bit x u) (sym (filled-at f j e)) ∙ q)
+      go (no n) = ap (λ (x : ℕ). bit x u) (there j n) ∙ q
 
   -- a row that is free was in no crew
   new : (j u : ℕ) → Has (crew f j) u → u ≡ row → ⊥
@@ -152,7 +167,7 @@ module _ (w : Work) (few : w .crews ≤ crewLimit) (F : ℕ) (f : Filling) (row 
   unfolding placeOf
   state-put =
       record {
-        shape = shape-put w f row (s .shape) going;
+        shape = shape-put w f row (s .shape);
         free = λ u. omega (arith, drop-sub (f .free) row free-row u, s .free u);
         placed = λ j u q.
             ⊎-elim
@@ -172,37 +187,44 @@ module _ (w : Work) (few : w .crews ≤ crewLimit) (F : ℕ) (f : Filling) (row 
         small = λ j. grown j (ℕ-discrete j (f .closed));
         held = λ p q.
             ⊎-elim
-            (λ h. let x = s .held p h in (x .0, stays (f .closed) (x .0) (x .1), x .2))
-            (λ h. (row, joins, h))
+            (λ h. let x = s .held p h in (x .0, or-in-l (f .crew) (2 ^ row) (x .0) (x .1), x .2))
+            (λ h. (row, bit-with-same (f .crew) row, h))
             (or-in (f .held) (w .holds row) p q);
         whole = λ j l p q. let x = s .whole j l p q in (x .0, stays j (x .0) (x .1), x .2);
       }
     where
       grown : (j : ℕ) → Dec (j ≡ f .closed) → ones (crew (putOf w f row) j) ≤ w .size
       grown j (yes e) =
-          let z : bit (crewOf f) row ≡ 0 =
-          ⊎-elim (λ o. o) (λ o. absurd (new (f .closed) row o refl)) (digit (crewOf f) row) in
-          omega (arith, ap ones (ap (crew (putOf w f row)) e ∙ joined), ones-with (crewOf f) row z, k .room)
-      grown j (no n) = omega (arith, ap ones (there f row (w .holds row) j n), s .small j)
+          let z : bit (f .crew) row ≡ 0 =
+          ⊎-elim (λ o. o) (λ o. absurd (new j row (ap (λ (x : ℕ). bit x row) (filled-at f j e) ∙ o) refl)) (digit (f .crew) row) in
+          omega (arith, ap ones (joined j e), ones-with (f .crew) row z, k .room)
+      grown j (no n) = omega (arith, ap ones (there j n), s .small j)
 
 -- the crew that is being filled covers: it is closed
-state-close : (w : Work) (F : ℕ) (f : Filling) → State w F f → f .closed < w .crews → missingOf (w .task) f ≡ 0 → State w F (closeOf f)
+state-close : (w : Work) → w .crews ≤ crewLimit → (F : ℕ) (f : Filling) → State w F f → f .closed < w .crews → missingOf (w .task) f ≡ 0
+    → State w F (closeOf f)
 unfolding closeOf
-state-close w F f s l z =
+state-close w few F f s l z =
     record {
       shape = shape-close w f (s .shape) l;
       free = s .free;
-      placed = s .placed;
-      apart = s .apart;
-      small = s .small;
+      placed = λ j u q. s .placed j u (before j u q);
+      apart = λ i j u q r. s .apart i j u (before i u q) (before j u r);
+      small = λ j. omega (arith, ap ones (same j), s .small j);
       held = λ p q. absurd (omega (arith, bit-none p));
-      whole = λ j m. go j m (ℕ-discrete j (f .closed));
+      whole = λ j m. subst (Held w) (sym (same j)) (go j m (ℕ-discrete j (f .closed)));
     }
   where
+    same : (j : ℕ) → crew (closeOf f) j ≡ crew f j
+    same = close-at w f (s .shape) (omega arith)
+
+    before : (j u : ℕ) → Has (crew (closeOf f) j) u → Has (crew f j) u
+    before j u q = ap (λ (x : ℕ). bit x u) (sym (same j)) ∙ q
+
     go : (j : ℕ) → j < f .closed + 1 → Dec (j ≡ f .closed) → Held w (crew f j)
     go j m (yes e) p q =
         let x = s .held p (has-of-sub (w .task) (f .held) (sub-of-missing (w .task) (f .held) z) p q) in
-        (x .0, ap (λ (i : ℕ). bit (crew f i) (x .0)) e ∙ x .1, x .2)
+        (x .0, ap (λ (c : ℕ). bit c (x .0)) (filled-at f j e) ∙ x .1, x .2)
     go j m (no n) p q = s .whole j (omega arith) p q
 
 state-placed : (w : Work) → w .crews ≤ crewLimit → (F : ℕ) (f : Filling) (row : ℕ) → State w F f → Tried w f row → State w F (placedOf w f row)
@@ -210,7 +232,7 @@ unfolding placeOf
 state-placed w few F f row s k =
     let l = unfinished w f (s .shape) (k .going) in
     placed-is w f row (State w F)
-    (λ z. state-close w F (putOf w f row) (state-put w few F f row s k) l z)
+    (λ z. state-close w few F (putOf w f row) (state-put w few F f row s k) l z)
     (λ z. state-put w few F f row s k)
 
 state-begin : (w : Work) (F : ℕ) → State w F (begin F)
@@ -220,13 +242,20 @@ state-begin w F =
       free = λ u. omega arith;
       placed = λ j u q. absurd (nobody j u q);
       apart = λ i j u q r. absurd (nobody i u q);
-      small = λ j. omega (arith, ap ones (none-at j), ones-none);
+      small = λ j. omega (arith, ap ones (empty j), ones-none);
       held = λ p q. absurd (omega (arith, bit-none p));
       whole = λ j l. absurd (omega arith);
     }
   where
-    nobody : (j u : ℕ) → Has (getD noCrews j 0) u → ⊥
-    nobody j u q = omega (arith, ap (λ (x : ℕ). bit x u) (none-at j), bit-none u)
+    empty : (j : ℕ) → crew (begin F) j ≡ 0
+    empty j = go (ℕ-discrete j 0)
+      where
+        go : Dec (j ≡ 0) → crew (begin F) j ≡ 0
+        go (yes e) = filled-at (begin F) j e
+        go (no n) = closed-at (begin F) j n ∙ none-at j
+
+    nobody : (j u : ℕ) → Has (crew (begin F) j) u → ⊥
+    nobody j u q = omega (arith, ap (λ (x : ℕ). bit x u) (empty j), bit-none u)
 
 -- ---- over a table
 
@@ -280,7 +309,7 @@ module _ (table : Table) (rows : table .rows ≤ rowLimit) (A : ℕ) (w : Work) 
       }
     where
       at : (j : ℕ) → j < w .crews → getD (take (w .crews) (f .crews)) j 0 ≡ crew f j
-      at j l = getD-take (w .crews) (f .crews) j 0 l
+      at j l = getD-take (w .crews) (f .crews) j 0 l ∙ sym (closed-at f j (λ z. omega arith))
 
       here-in : (j u : ℕ) → Has (crew f j) u → (u < table .rows) × (bit A u ≡ 0)
       here-in j u q = present-in table A u rows (s .placed j u q .0)

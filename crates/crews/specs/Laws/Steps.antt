@@ -2,7 +2,7 @@
 -- allowance goes with them. Assumes nothing.
 use mathlib.Core.Path.{_≡_, refl, sym, ap, ap₂, _∙_}
 use mathlib.Core.Logic.{_⊎_, inl, inr, ⊎-elim, _≢_}
-use mathlib.Core.Bool.{Bool, true, false}
+use mathlib.Core.Bool.{Bool, true, false, true≢false}
 use mathlib.Core.List.{List, [], _∷_}
 use Prim.Native.Nat.{ℕ, zero, suc, _+_, _-_, _≤_, _<_}
 use native.Mathlib.Nat.{add-assoc, add-zero}
@@ -10,8 +10,8 @@ use native.Mathlib.Omega.{arith}
 use lib.Bits.{bitAnd, and-zero-r}
 use lib.Count.{ones, trailingZeros}
 use lib.Dec.{eqb, leb}
-use borrow.Author.Tests.{le-leb, lt-leb, leb-true, leb-false}
-use Rattle.sets.specs.Sets.{ones-empty}
+use borrow.Author.Tests.{eq-eqb, ne-eqb, eqb-true, eqb-false, le-leb, lt-leb, leb-true, leb-false}
+use Rattle.sets.specs.Sets.{ones-empty, missing-all}
 use Rattle.sets.specs.Members.{members}
 use Rattle.sets.specs.Laws.Sums.{either}
 use Rattle.sets.specs.Laws.Members.{members-empty, filter-all}
@@ -19,8 +19,8 @@ use Rattle.roster.specs.Replies.{noCrews}
 use Rattle.crews.specs.declared.Filling.{Filling}
 use Rattle.crews.specs.declared.Ending.the-variants.{Complete, Exhausted, Undecided}
 use Rattle.crews.specs.declared.Filled.{Filled}
-use Rattle.crews.specs.Filling.{Work, Outcome, nothing, complete, after, crewOf, missingOf, placeOf, placedOf, candidates, tryEach, search, searchFrom, plainly}
-use Rattle.crews.specs.Filled.{endingOf, filledOf, closedWhere, foundFrom}
+use Rattle.crews.specs.Filling.{Work, Outcome, nothing, complete, after, missingOf, placeOf, closeOf, placedOf, candidates, tryEach, search, begin, searchFrom, plainly}
+use Rattle.crews.specs.Filled.{endingOf, filledOf, closedWhere, stuck, foundFrom}
 use Rattle.crews.specs.Laws.Search.{search-out, search-open}
 
 -- ---- the allowance
@@ -138,6 +138,45 @@ module _ (deeper : Filling → Outcome) (w : Work) (f : Filling) where
             )
             go (is-over h x) = let z : _≡_ {A = ℕ} 0 1 = cc in absurd (omega arith)
 
+-- ---- a crew that covers, and one that is full without covering
+
+module _ (task : ℕ) (f : Filling) where
+  pub shut : missingOf task f ≡ 0 → closedWhere task f ≡ closeOf f
+  unfolding closedWhere
+  shut e = rw (eq-eqb _ 0 e, closedWhere)
+
+  pub short : missingOf task f ≢ 0 → closedWhere task f ≡ f
+  unfolding closedWhere
+  short n = rw (ne-eqb _ 0 n, closedWhere)
+
+  -- either way no row is placed or freed
+  pub closed-free : closedWhere task f .free ≡ f .free
+  unfolding closeOf
+  closed-free =
+      ⊎-elim (λ e. ap (λ (g : Filling). g .free) (shut (eqb-true _ 0 e))) (λ e. ap (λ (g : Filling). g .free) (short (eqb-false _ 0 e)))
+      (either (eqb (missingOf task f) 0))
+
+  module _ (size : ℕ) where
+    pub covering : missingOf task f ≡ 0 → stuck task size f ≡ false
+    unfolding stuck
+    covering e = rw (eq-eqb _ 0 e, stuck)
+
+    pub lacking : missingOf task f ≢ 0 → stuck task size f ≡ leb size (ones (f .crew))
+    unfolding stuck
+    lacking n = rw (ne-eqb _ 0 n, stuck)
+
+    -- what is stuck lacks something, and is full
+    pub stuck-is : stuck task size f ≡ true → (missingOf task f ≢ 0) × (size ≤ ones (f .crew))
+    stuck-is s =
+        ⊎-elim
+        (λ e. absurd (true≢false (sym s ∙ covering (eqb-true _ 0 e))))
+        (λ e. let n = eqb-false _ 0 e in (n, leb-true _ _ (sym (lacking n) ∙ s)))
+        (either (eqb (missingOf task f) 0))
+
+-- a crew just begun lacks the whole task
+pub begun-short : (task free : ℕ) → task ≢ 0 → closedWhere task (begin free) ≡ begin free
+begun-short task free n = short task (begin free) (λ e. n (sym (missing-all task) ∙ e))
+
 -- ---- the search under 01's rule
 
 module _ (holds holders : ℕ → ℕ) (P d t : ℕ) (f : Filling) where
@@ -154,14 +193,14 @@ module _ (holds holders : ℕ → ℕ) (P d t : ℕ) (f : Filling) where
 
   pub candidates-plainly : candidates rule f ≡ members 0 64 all
   unfolding candidates
-  candidates-plainly = go (either (eqb (crewOf f) 0))
+  candidates-plainly = go (either (eqb (f .crew) 0))
     where
-      go : (eqb (crewOf f) 0 ≡ true) ⊎ (eqb (crewOf f) 0 ≡ false) → candidates rule f ≡ members 0 64 all
+      go : (eqb (f .crew) 0 ≡ true) ⊎ (eqb (f .crew) 0 ≡ false) → candidates rule f ≡ members 0 64 all
       go (inl e) = rw (e, candidates) (filter-all _)
       go (inr e) = rw (e, candidates)
 
   -- where no row is free there is none to try
-  pub search-tries : f .closed ≢ rule .crews → ones (crewOf f) < rule .size
+  pub search-tries : f .closed ≢ rule .crews → ones (f .crew) < rule .size
       → search (ones (f .free)) rule f ≡ tryEach (λ g. search (ones (f .free) - 1) rule g) rule f (members 0 64 all)
   search-tries e h = go (ones (f .free)) refl
     where
@@ -181,10 +220,15 @@ module _ (holds holders : ℕ → ℕ) (P d t : ℕ) (f : Filling) where
 
 -- ---- no more crews than a reply has room for
 
-pub found-few : (w : Work) (free : ℕ) → w .crews ≤ 8 → foundFrom w free ≡ searchFrom w free
-unfolding foundFrom
-found-few w free l = rw (le-leb _ _ l, foundFrom)
+module _ (w : Work) (free : ℕ) where
+  pub found-few : w .task ≢ 0 → w .crews ≤ 8 → foundFrom w free ≡ searchFrom w free
+  unfolding foundFrom
+  found-few n l = rw (le-leb 1 (w .task) (omega (arith, n)), le-leb _ _ l, foundFrom)
 
-pub found-many : (w : Work) (free : ℕ) → 8 < w .crews → foundFrom w free ≡ nothing
-unfolding foundFrom
-found-many w free l = rw (lt-leb _ _ l, foundFrom)
+  pub found-many : w .task ≢ 0 → 8 < w .crews → foundFrom w free ≡ nothing
+  unfolding foundFrom
+  found-many n l = rw (le-leb 1 (w .task) (omega (arith, n)), lt-leb _ _ l, foundFrom)
+
+  pub found-idle : w .task ≡ 0 → foundFrom w free ≡ nothing
+  unfolding foundFrom
+  found-idle z = rw (lt-leb 1 (w .task) (omega (arith, z)), foundFrom)
