@@ -54,9 +54,13 @@ foundFrom w free =
 unfoldable pub closedWhere : ℕ → Filling → Filling
 closedWhere task f = elim (eqb (missingOf task f) 0) [ true ↦ closeOf f | false ↦ f ]
 
--- the crew being filled is full without covering
+-- the crew being filled has no fewer rows than this
+abbrev pub full : ℕ → Filling → Bool
+full size f = leb size (ones (f .crew))
+
+-- it is full without covering
 unfoldable pub stuck : ℕ → ℕ → Filling → Bool
-stuck task size f = elim (eqb (missingOf task f) 0) [ true ↦ false | false ↦ leb size (ones (f .crew)) ]
+stuck task size f = elim (eqb (missingOf task f) 0) [ true ↦ false | false ↦ full size f ]
 
 -- the reply to a named absence that a filling comes to: the rows "crews", "none" and "undecided" of the table of replies
 abbrev pub verdictOf : Ending → Verdict

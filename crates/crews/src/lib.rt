@@ -104,10 +104,10 @@ impl Filling {
     fn stuck(self, task: u32, size: u32) -> bool
         ensures { λ r. ⌜ r ≡ stuck task size self ⌝ }
     {
-        if missing(task, self.held) == 0 {
-            return false;
+        if missing(task, self.held) != 0 {
+            return sets::size(self.crew) >= size;
         }
-        sets::size(self.crew) >= size
+        false
     }
 
     // The crews as a complete list.
@@ -212,6 +212,7 @@ pub fn fill(
     allowance: u32,
 ) -> Filled
     ensures { λ r. ⌜ r ≡ filledOf allowance spent (foundFrom (plainly (at (now (holds .entry))) (at (now (holders .entry))) task crews size) free) ⌝ }
+    ensures kept { λ _. ⌜ (now (holds .exit) ≡ now (holds .entry)) × (now (holders .exit) ≡ now (holders .entry)) ⌝ }
 {
     if spent > allowance {
         return Filled::without_crews(Ending::Undecided, allowance);
@@ -270,6 +271,7 @@ fn holders_at(holds: &[u32; Policy::ROWS], permission: usize) -> u64
 // For each permission the rows that hold it.
 pub fn holders_of(holds: &[u32; Policy::ROWS]) -> [u64; 32]
     ensures { λ r. ⌜ r ≡ tabulate 32 (holdersOf (at (now (holds .entry)))) ⌝ }
+    ensures kept { λ _. ⌜ now (holds .exit) ≡ now (holds .entry) ⌝ }
 {
     let mut holders = [0u64; 32];
     let mut permission: usize = 0;

@@ -79,7 +79,7 @@ lends c = record {
   some = limits (c .before .before .before .before .before .before .before .before .before .before) .task;
   wide = c .before .before .before .before .before .before .before .before .before .before .before .before .before .fits .task .fits;
   held = c .before .before .before .before .before .before .before .before .before .holdings-within .ensures;
-  holding = c .before .before .before .before .before .before .before .holders-of .ensures;
+  holding = c .before .before .before .before .before .before .before .holders-of .ensures .0;
 }
 
 ranks : (c : tie.After-smaller) → Ranked (c .before .before .before .before .before .before .before .before .before .before .before .before .before .args .table) (searching c) (c .before .before .before .before .before .ranked .result)

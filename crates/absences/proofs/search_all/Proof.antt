@@ -31,7 +31,7 @@ filled : (k : tie.After-walked-by) (table : Table) → Lent table (k .before .be
     ≡ filledOf (k .before .before .before .args .search .allowance) 1 (filling table (k .before .before .before .args .search .task) (k .before .before .before .args .search .crews) (k .before .before .before .args .search .size) 0)
 filled k table lent =
     let a = k .before .before .before .args in
-    k .before .before .fill .ensures
+    k .before .before .fill .ensures .0
     ∙ ap (filledOf (a .search .allowance) 1)
     (fills table (a .search) (now (a .holds)) (now (a .holders)) lent (a .search .everyone) 0 (nobody table (a .search) (now (a .holds)) (now (a .holders)) lent))
 

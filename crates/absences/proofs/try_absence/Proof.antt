@@ -31,7 +31,7 @@ filled : (c : tie.After-fill) (table : Table)
     (filling table (c .before .before .before .before .args .search .task) (c .before .before .before .before .args .search .crews) (c .before .before .before .before .args .search .size) (c .before .before .before .before .args .absent))
 filled c table lent =
     let a = c .before .before .before .before .args in
-    c .fill .ensures ∙ ap (filledOf (a .search .allowance) (a .spent + 1)) (fills table (a .search) (now (a .holds)) (now (a .holders)) lent _ (a .absent) refl)
+    c .fill .ensures .0 ∙ ap (filledOf (a .search .allowance) (a .spent + 1)) (fills table (a .search) (now (a .holds)) (now (a .holders)) lent _ (a .absent) refl)
 
 walked-by-requires : tie.Need-walked-by-requires
 walked-by-requires c κs = search needs

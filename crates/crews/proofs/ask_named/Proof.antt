@@ -106,10 +106,10 @@ returns-2 c =
     admitted (s .table) (s .task) (s .crews) (s .size) (s .absent) (s .allowance) wide (c .reply-of .result) ok
     (c .reply-of .ensures
     ∙ ap repliedOf
-    (c .before .fill .ensures
+    (c .before .fill .ensures .0
     ∙ ap (filledOf (s .allowance) 0)
     (same-filling (s .table) (s .task) (s .crews) (s .size) (s .absent) (k .rows) (k .task) wide (k .few) (c .before .before .before .before .before .before .before .holdings-within .result)
-    (c .before .before .before .before .before .holders-of .result) (c .before .before .below .result) (c .before .before .before .before .before .before .before .holdings-within .ensures) (c .before .before .before .before .before .holders-of .ensures)
+    (c .before .before .before .before .before .holders-of .result) (c .before .before .below .result) (c .before .before .before .before .before .before .before .holdings-within .ensures) (c .before .before .before .before .before .holders-of .ensures .0)
     (c .before .before .below .ensures ∙ below-within 64 (s .table .rows) (k .rows)))))
 
 pub ask-named-spec : {M : Type 1} → statement M

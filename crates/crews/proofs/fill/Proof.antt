@@ -1,6 +1,6 @@
 -- An allowance overspent is undecided whatever the outcome; for no permission and past the limit nothing is looked for; else the search
 -- begins, with a crew that lacks the whole task. Assumes nothing.
-use mathlib.Core.Path.{sym, ap, _∙_}
+use mathlib.Core.Path.{refl, sym, ap, _∙_}
 use native.Mathlib.Omega.{arith}
 use lib.Count.{ones}
 use borrow.Author.Needs.{needs}
@@ -19,7 +19,7 @@ returns : tie.Need-returns
 returns c =
     let s = c .before .before .args in
     let w = plainly (at (s .holds .now)) (at (s .holders .now)) (s .task) (s .crews) (s .size) in
-    c .without-crews .ensures ∙ sym (filled-over (s .allowance) (s .spent) (foundFrom w (s .free)) (omega (arith, c .before .if1 .taken)))
+    (c .without-crews .ensures ∙ sym (filled-over (s .allowance) (s .spent) (foundFrom w (s .free)) (omega (arith, c .before .if1 .taken))), (refl, refl))
 
 without-crews-requires-2 : tie.Need-without-crews-requires-2
 without-crews-requires-2 c κs = search needs
@@ -27,9 +27,11 @@ without-crews-requires-2 c κs = search needs
 returns-2 : tie.Need-returns-2
 returns-2 c =
     let s = c .before .before .before .args in
-    let w = plainly (at (s .holds .now)) (at (s .holders .now)) (s .task) (s .crews) (s .size) in
-    c .without-crews2 .ensures
-    ∙ says-exhausted (s .allowance) (s .spent) (foundFrom w (s .free)) (found-idle w (s .free) (c .before .if2 .taken)) (omega (arith, c .before .before .if1 .left))
+    let w = plainly (at (s .holds .now)) (at (s .holders .now)) (s .task) (s .crews) (s .size) in (
+      c .without-crews2 .ensures
+          ∙ says-exhausted (s .allowance) (s .spent) (foundFrom w (s .free)) (found-idle w (s .free) (c .before .if2 .taken)) (omega (arith, c .before .before .if1 .left)),
+      (refl, refl),
+    )
 
 without-crews-requires-3 : tie.Need-without-crews-requires-3
 without-crews-requires-3 c κs = search needs
@@ -37,10 +39,12 @@ without-crews-requires-3 c κs = search needs
 returns-3 : tie.Need-returns-3
 returns-3 c =
     let s = c .before .before .before .before .args in
-    let w = plainly (at (s .holds .now)) (at (s .holders .now)) (s .task) (s .crews) (s .size) in
-    c .without-crews3 .ensures
-    ∙ says-exhausted (s .allowance) (s .spent) (foundFrom w (s .free)) (found-many w (s .free) (c .before .before .if2 .left) (c .before .if3 .taken))
-    (omega (arith, c .before .before .before .if1 .left))
+    let w = plainly (at (s .holds .now)) (at (s .holders .now)) (s .task) (s .crews) (s .size) in (
+      c .without-crews3 .ensures
+          ∙ says-exhausted (s .allowance) (s .spent) (foundFrom w (s .free)) (found-many w (s .free) (c .before .before .if2 .left) (c .before .if3 .taken))
+          (omega (arith, c .before .before .before .if1 .left)),
+      (refl, refl),
+    )
 
 begin-requires : tie.Need-begin-requires
 begin-requires c κs = search needs
@@ -55,11 +59,13 @@ returns-4 : tie.Need-returns-4
 returns-4 c =
     let s = c .before .before .before .before .before .args in
     let w = plainly (at (s .holds .now)) (at (s .holders .now)) (s .task) (s .crews) (s .size) in
-    let some = c .before .before .before .if2 .left in
-    c .fill-on .ensures
-    ∙ ap (λ (f : Filling). filledOf (s .allowance) (s .spent) (definition.search (ones (f .free)) w (closedWhere (s .task) f))) (c .before .begin .ensures)
-    ∙ ap (λ (f : Filling). filledOf (s .allowance) (s .spent) (definition.search (ones (s .free)) w f)) (begun-short (s .task) (s .free) some)
-    ∙ ap (filledOf (s .allowance) (s .spent)) (sym (found-few w (s .free) some (c .before .before .if3 .left)))
+    let some = c .before .before .before .if2 .left in (
+      c .fill-on .ensures
+          ∙ ap (λ (f : Filling). filledOf (s .allowance) (s .spent) (definition.search (ones (f .free)) w (closedWhere (s .task) f))) (c .before .begin .ensures)
+          ∙ ap (λ (f : Filling). filledOf (s .allowance) (s .spent) (definition.search (ones (s .free)) w f)) (begun-short (s .task) (s .free) some)
+          ∙ ap (filledOf (s .allowance) (s .spent)) (sym (found-few w (s .free) some (c .before .before .if3 .left))),
+      (refl, refl),
+    )
 
 pub fill-spec : {M : Type 1} → statement M
 fill-spec =

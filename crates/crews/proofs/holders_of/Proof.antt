@@ -1,4 +1,5 @@
 -- The permissions passed have their holders. Assumes nothing.
+use mathlib.Core.Path.{refl}
 use Prim.Native.Nat.{_-_}
 use borrow.Author.Needs.{needs}
 use Rattle.crews.specs.Filling.{holdersOf}
@@ -41,7 +42,7 @@ loop-again c =
 returns : tie.Need-returns Inv-loop μ-loop
 returns c =
     let l = c .before .loop in
-    passed-all 32 (holdersOf (at (c .before .before .args .holds .now))) (l .permission) (l .holders) (l .inv) (c .loop-test .left)
+    (passed-all 32 (holdersOf (at (c .before .before .args .holds .now))) (l .permission) (l .holders) (l .inv) (c .loop-test .left), refl)
 
 pub holders-of-spec : {M : Type 1} → statement M
 holders-of-spec =

@@ -112,17 +112,6 @@ module _ (deeper : Filling → Outcome) (w : Work) (f : Filling) where
   abbrev leads : ℕ → Bool
   leads row = deeper (placedOf w f row) .found
 
-  -- where one is found, some candidate's placement led to it
-  pub try-from : (rows : List ℕ) → tryEach deeper w f rows .found ≡ true
-      → (row : ℕ) × List·Memᴰ row rows × (leads row ≡ true) × (tryEach deeper w f rows .crews ≡ deeper (placedOf w f row) .crews)
-  unfolding tryEach
-  try-from [] e = absurd (true≢false (sym e))
-  try-from (row ∷ rest) e =
-      ⊎-elim
-      (λ (h : leads row ≡ true). (row, List·Memᴰ·head refl, h, rw (h, tryEach)))
-      (λ (h : leads row ≡ false). let x = try-from rest (rw (h, tryEach) at e) in (x .0, List·Memᴰ·tail (x .1), x .2, rw (h, tryEach) (x .3)))
-      (either (leads row))
-
   -- a candidate whose placement leads to a list is not passed over
   pub try-finds : (row : ℕ) (rows : List ℕ) → List·Memᴰ row rows → leads row ≡ true → tryEach deeper w f rows .found ≡ true
   unfolding tryEach
@@ -137,6 +126,17 @@ module _ (deeper : Filling → Outcome) (w : Work) (f : Filling) where
       (λ t. try-finds row rest t ok)
       (List·Memᴰ·cases-cons m)))
       (either (leads x))
+
+  -- where one is found, some candidate's placement led to it
+  pub try-from : (rows : List ℕ) → tryEach deeper w f rows .found ≡ true
+      → (row : ℕ) × List·Memᴰ row rows × (leads row ≡ true) × (tryEach deeper w f rows .crews ≡ deeper (placedOf w f row) .crews)
+  unfolding tryEach
+  try-from [] e = absurd (true≢false (sym e))
+  try-from (row ∷ rest) e =
+      ⊎-elim
+      (λ (h : leads row ≡ true). (row, List·Memᴰ·head refl, h, rw (h, tryEach)))
+      (λ (h : leads row ≡ false). let x = try-from rest (rw (h, tryEach) at e) in (x .0, List·Memᴰ·tail (x .1), x .2, rw (h, tryEach) (x .3)))
+      (either (leads row))
 
   -- where none is found, no crew is given
   pub try-none : (rows : List ℕ) → tryEach deeper w f rows .found ≡ false → tryEach deeper w f rows .crews ≡ noCrews

@@ -20,7 +20,7 @@ use Rattle.crews.specs.declared.Filling.{Filling}
 use Rattle.crews.specs.declared.Ending.the-variants.{Complete, Exhausted, Undecided}
 use Rattle.crews.specs.declared.Filled.{Filled}
 use Rattle.crews.specs.Filling.{Work, Outcome, nothing, complete, after, missingOf, placeOf, closeOf, placedOf, candidates, tryEach, search, begin, searchFrom, plainly}
-use Rattle.crews.specs.Filled.{endingOf, filledOf, closedWhere, stuck, foundFrom}
+use Rattle.crews.specs.Filled.{endingOf, filledOf, closedWhere, full, stuck, foundFrom}
 use Rattle.crews.specs.Laws.Search.{search-out, search-open}
 
 -- ---- the allowance
@@ -161,7 +161,7 @@ module _ (task : ℕ) (f : Filling) where
     unfolding stuck
     covering e = rw (eq-eqb _ 0 e, stuck)
 
-    pub lacking : missingOf task f ≢ 0 → stuck task size f ≡ leb size (ones (f .crew))
+    pub lacking : missingOf task f ≢ 0 → stuck task size f ≡ full size f
     unfolding stuck
     lacking n = rw (ne-eqb _ 0 n, stuck)
 
@@ -170,7 +170,7 @@ module _ (task : ℕ) (f : Filling) where
     stuck-is s =
         ⊎-elim
         (λ e. absurd (true≢false (sym s ∙ covering (eqb-true _ 0 e))))
-        (λ e. let n = eqb-false _ 0 e in (n, leb-true _ _ (sym (lacking n) ∙ s)))
+        (λ e. let n = eqb-false _ 0 e in let x = leb-true _ _ (sym (lacking n) ∙ s) in (n, omega arith))
         (either (eqb (missingOf task f) 0))
 
 -- a crew just begun lacks the whole task
