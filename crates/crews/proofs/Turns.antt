@@ -9,7 +9,7 @@ use native.Mathlib.Omega.{arith}
 use lib.Bits.{bitAnd, bitXor}
 use lib.Count.{ones, trailingZeros}
 use lib.Dec.{eqb}
-use borrow.Author.Tests.{eqb-true, eqb-false}
+use borrow.Author.Tests.{eqb-true, eqb-false, leb-true}
 use Rattle.sets.specs.Sets.{bit, Has, Sub, Least, bit-and, bit-le, trailing-least, shl-one}
 use Rattle.sets.specs.Members.{members}
 use Rattle.sets.specs.Laws.Sums.{either}
@@ -207,5 +207,5 @@ module _ {a : Asked} {rest units : ℕ} (g : Going a rest units) where
           let x = step.stuck-is (a .task) next (a .size) (ap (stuck (a .task) (a .size)) (sym eq) ∙ k) in
           exhausted-here
           (step.says-exhausted (a .allowance) (units + 1) (deeper a (placedOf (rule a) (a .state) row))
-          (ap (deeper a) (settled-next ∙ step.short (a .task) next (x .0)) ∙ search-full (rule a) next _ (λ e. omega (arith, g .unfinished)) (x .1)) (omega arith))
+          (ap (deeper a) (settled-next ∙ step.short (a .task) next (x .0)) ∙ search-full (rule a) next _ (λ e. omega (arith, g .unfinished)) (leb-true _ _ (x .1))) (omega arith))
           refl

@@ -153,7 +153,7 @@ fill-on-returns-2 : (t : ℕ) → fill-on-lts.Need-returns-2 (callees t) (fill-o
 fill-on-returns-2 t c =
     let s = c .before .before .before .before .before in
     let a = asked t s in
-    let full : a .size ≤ ones (a .state .crew) = omega (arith, c .before .before .size .ensures, c .before .if2 .taken) in
+    let full : turn.rule a .size ≤ ones (a .state .crew) = omega (arith, c .before .before .size .ensures, c .before .if2 .taken) in
     c .without-crews .ensures
     ∙ step.says-exhausted (a .allowance) (a .spent) _ (search-full (turn.rule a) (a .state) _ (c .before .before .before .if1 .left) full) (s .before .pre .1 .within)
     ∙ told t s

@@ -63,7 +63,7 @@ module _ (table : Table) (P d : ℕ) (fair : Fair table P d) (t A : ℕ) where
         free = λ j u l q. in-present table A u (fair .rows) a (row j u l q) (omega (arith, c .present j l u));
         apart = λ i j u l m q r.
             ⊎-elim (λ e. e) (λ n. absurd (omega (arith, c .disjoint i j l m n u))) (same-or-not i j);
-        small = c .small;
+        small = λ j l. omega (arith, c .small j l);
         whole = λ j l p q.
             let x = c .whole j l p q in
             (x .0, x .1, ap (λ (m : ℕ). bit m p) (work-agrees table P d t (fair .rows) .holds (x .0) (row j (x .0) l (x .1))) ∙ x .2);
