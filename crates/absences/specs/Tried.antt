@@ -62,8 +62,11 @@ pub record Found : Type 0 where
   pub need : ℕ
 
 -- "An absence tried costs one unit plus its placements."
+abbrev pub perAbsence : ℕ
+perAbsence = 1
+
 abbrev pub unitsOf : Outcome → ℕ
-unitsOf o = 1 + o .need
+unitsOf o = perAbsence + o .need
 
 -- "The need of a policy question is the sum over the absences tried, up to and including the first that blocks, or all if none does."
 unfoldable pub weighed : Table → ℕ → ℕ → ℕ → List ℕ → Found
