@@ -60,7 +60,7 @@ module _ (table : Table) (s : Search) (most : ℕ) (first : Filled)
   tries = weighed table (s .task) (s .crews) (s .size)
 
   abbrev rest : List ℕ
-  rest = sized table s most 1
+  rest = sized table s most
 
   abbrev crews : List ℕ
   crews = filling table (s .task) (s .crews) (s .size) 0 .crews

@@ -5,7 +5,7 @@
 use mathlib.Core.Path.{_≡_, refl, sym, ap, _∙_, subst}
 use mathlib.Core.Logic.{_⊎_, inl, inr, _≢_, _↔_}
 use mathlib.Core.Bool.{true, false}
-use mathlib.Core.List.{List, [], _∷_, _++_, List·Memᴰ, List·Memᴰ·head, List·Memᴰ·tail, List·Memᴰ·not-nil, List·Memᴰ·eq-of-singleton, List·Memᴰ·append-cases, Memᴰ·append-left, Memᴰ·append-right}
+use mathlib.Core.List.{List, [], _∷_, _++_, List·Memᴰ, List·Memᴰ·head, List·Memᴰ·tail, List·Memᴰ·not-nil, List·Memᴰ·eq-of-singleton, List·Memᴰ·append-cases, List·Memᴰ·cases-cons, Memᴰ·append-left, Memᴰ·append-right}
 use Prim.Native.Nat.{ℕ, zero, suc, _+_, _^_, _≤_, _<_, min}
 use native.Mathlib.Decide.{decLt, ℕ-discrete}
 use native.Mathlib.Omega.{arith}
@@ -14,7 +14,7 @@ use lib.Count.{ones, ones-le}
 use lib.Dec.{T}
 use lib.Pow.{pow-pos}
 use borrow.Author.Tests.{eqb-true, eq-eqb, ne-eqb}
-use Rattle.sets.specs.Sets.{bit, Has, bit-le, bit-none, bit-high, with, with-lt, bit-with-same, bit-with-other, ones-with, ones-none, ext, sub-eq, sub-of-test, test-of-sub}
+use Rattle.sets.specs.Sets.{bit, Has, bit-le, bit-none, bit-high, with, with-lt, bit-with-same, bit-with-other, ones-with, ones-none, ones-empty, ext, sub-eq, sub-of-test, test-of-sub}
 use Rattle.sets.specs.Laws.Sums.{either, toN-yes, true-of-toN}
 use Rattle.sets.specs.Laws.Build.{setOf-bit, setOf-high}
 use Rattle.roster.specs.declared.Table.{Table}
@@ -382,50 +382,73 @@ module _ (way : Way) (table : Table) (P : ℕ) where
       listed-complete n k 0 0 S (omega arith) start
       (record { rows = h; agree = λ i l z. absurd (omega arith); size = omega (arith, ones-none); kept = q })
 
-  sizes-sound : (m k S : ℕ) → List·Memᴰ S (sizesFrom way table P m k)
-      → (S < 2 ^ n) × (k ≤ ones S) × (ones S ≤ k + m) × Kept way table P S
+  -- Of the sizes from k on the definition lists one, j, and goes on from j′: none smaller is left, the others are larger, and none is left out.
+  sizes-step : (m k : ℕ) → (j : ℕ) × (j′ : ℕ) × (sizesFrom way table P (suc m) k ≡ list n j 0 0 ++ sizesFrom way table P m j′)
+      × (k ≤ j) × (j < j′) × (j′ ≤ suc k)
   unfolding sizesFrom
-  sizes-sound zero k S i = let c = size-sound k S i in (c .0, omega (arith, c .1), omega (arith, c .1), c .2)
-  sizes-sound (suc m) k S i = go (sizes-sound m (suc k) S) (List·Memᴰ·append-cases (list n k 0 0) i)
-    where
-      go : (List·Memᴰ S (sizesFrom way table P m (suc k)) → (S < 2 ^ n) × (suc k ≤ ones S) × (ones S ≤ suc k + m) × Kept way table P S)
-          → List·Memᴰ S (list n k 0 0) ⊎ List·Memᴰ S (sizesFrom way table P m (suc k))
-          → (S < 2 ^ n) × (k ≤ ones S) × (ones S ≤ k + suc m) × Kept way table P S
-      go ih (inl q) = let c = size-sound k S q in (c .0, omega (arith, c .1), omega (arith, c .1), c .2)
-      go ih (inr q) = let c = ih q in (c .0, omega (arith, c .1), omega (arith, c .2), c .3)
+  sizes-step m k = (_, _, refl, omega arith, omega arith, omega arith)
 
-  sizes-complete : (m k S : ℕ) → S < 2 ^ n → k ≤ ones S → ones S ≤ k + m → Kept way table P S
-      → List·Memᴰ S (sizesFrom way table P m k)
+  sizes-sound : (m k S : ℕ) → List·Memᴰ S (sizesFrom way table P m k)
+      → (S < 2 ^ n) × (k ≤ ones S) × (ones S < k + m) × Kept way table P S
   unfolding sizesFrom
-  sizes-complete zero k S h a b q = size-complete k S h (omega arith) q
-  sizes-complete (suc m) k S h a b q = go (ℕ-discrete (ones S) k) (λ c. sizes-complete m (suc k) S h c (omega arith) q)
-    where
-      go : Dec (ones S ≡ k) → (suc k ≤ ones S → List·Memᴰ S (sizesFrom way table P m (suc k)))
-          → List·Memᴰ S (list n k 0 0 ++ sizesFrom way table P m (suc k))
-      go (yes e) ih = Memᴰ·append-left (sizesFrom way table P m (suc k)) (size-complete k S h e q)
-      go (no e) ih = Memᴰ·append-right (list n k 0 0) (ih (omega arith))
+  sizes-sound zero k S i = absurd (List·Memᴰ·not-nil i)
+  sizes-sound (suc m) k S i =
+      let st = sizes-step m k in
+      elim (List·Memᴰ·append-cases (list n (st .0) 0 0) (subst (λ l. List·Memᴰ S l) (st .2) i)) [
+        | inl q ↦ let c = size-sound (st .0) S q in (c .0, omega (arith, c .1, st .3), omega (arith, c .1, st .4, st .5), c .2)
+        | inr q ↦ let c = sizes-sound m (st .1) S q in (c .0, omega (arith, c .1, st .3, st .4), omega (arith, c .2, st .5), c .3)
+      ]
+
+  sizes-complete : (m k S : ℕ) → S < 2 ^ n → k ≤ ones S → ones S < k + m → Kept way table P S
+      → List·Memᴰ S (sizesFrom way table P m k)
+  sizes-complete zero k S h a b q = absurd (omega arith)
+  sizes-complete (suc m) k S h a b q =
+      let st = sizes-step m k in
+      subst (λ l. List·Memᴰ S l) (sym (st .2))
+      (elim (ℕ-discrete (ones S) (st .0)) [
+        | yes e ↦ Memᴰ·append-left (sizesFrom way table P m (st .1)) (size-complete (st .0) S h e q)
+        | no e ↦
+            Memᴰ·append-right (list n (st .0) 0 0)
+            (sizes-complete m (st .1) S h (omega (arith, st .3, st .4, st .5)) (omega (arith, st .3, st .4)) q)
+      ])
+
+  -- a set is that of nobody or has one of the sizes
+  nobody-or-sizes : (m k S : ℕ) → S < 2 ^ n → (ones S ≢ 0 → k ≤ ones S) → (ones S ≢ 0 → ones S < k + m) → Kept way table P S
+      → List·Memᴰ S (0 ∷ sizesFrom way table P m k)
+  nobody-or-sizes m k S h a b q =
+      elim (ℕ-discrete (ones S) 0) [
+        | yes e ↦ List·Memᴰ·head (ones-empty S e)
+        | no e ↦ let i : List·Memᴰ S (sizesFrom way table P m k) = sizes-complete m k S h (a e) (b e) q in List·Memᴰ·tail i
+      ]
 
   sizes-ascending : (m k : ℕ) → Ascending table P (sizesFrom way table P m k)
   unfolding sizesFrom
-  sizes-ascending zero k = listed-ascending n k 0 0 (omega arith) start
+  sizes-ascending zero k = tt
   sizes-ascending (suc m) k =
-      ascending-append table P (list n k 0 0) (sizesFrom way table P m (suc k)) (listed-ascending n k 0 0 (omega arith) start)
-      (sizes-ascending m (suc k))
-      (λ A B a b. inl (omega (arith, size-sound k A a .1, sizes-sound m (suc k) B b .1)))
+      let st = sizes-step m k in
+      subst (Ascending table P) (sym (st .2))
+      (ascending-append table P (list n (st .0) 0 0) (sizesFrom way table P m (st .1)) (listed-ascending n (st .0) 0 0 (omega arith) start)
+      (sizes-ascending m (st .1))
+      (λ A B a b. inl (omega (arith, size-sound (st .0) A a .1, st .4, sizes-sound m (st .1) B b .1))))
 
   -- ---- the theorems
 
   -- what is tried is a set of rows, no larger than the smaller of s and the row count; where the search skips, it is worth trying
   pub tried-sound : (s A : ℕ) → List·Memᴰ A (tried way table P s) → Absence table (min s (table .rows)) A × Picked way table P A
   tried-sound s A i =
-      let c = sizes-sound _ _ A i in
-      (record { rows = c .0; few = omega (arith, c .2, ones-le n A (c .0)) }, of-kept way table P A (c .3))
+      elim (List·Memᴰ·cases-cons i) [
+        | inl e ↦ subst (λ (B : ℕ). Absence table (min s (table .rows)) B × Picked way table P B) (sym e)
+            (record { rows = start .rows; few = omega (arith, ones-none) }, of-kept way table P 0 (start .kept))
+        | inr q ↦
+            (let c = sizes-sound _ _ A q in
+            (record { rows = c .0; few = omega (arith, c .1, c .2, ones-le n A (c .0)) }, of-kept way table P A (c .3)))
+      ]
 
   -- every set of at most s rows is tried; where the search skips, every one that is worth trying
   pub tried-complete : (s A : ℕ) → Absence table s A → Picked way table P A → List·Memᴰ A (tried way table P s)
   tried-complete s A a p =
-      sizes-complete _ _ A (a .rows) (omega arith) (omega (arith, a .few, ones-le n A (a .rows))) (kept-of way table P A p)
+      nobody-or-sizes _ _ A (a .rows) (λ e. omega arith) (λ e. omega (arith, a .few, ones-le n A (a .rows))) (kept-of way table P A p)
 
   -- each once, in the order of absences
   pub tried-ascending : (s : ℕ) → Ascending table P (tried way table P s)
-  tried-ascending s = sizes-ascending _ _
+  tried-ascending s = (λ B i. inl (omega (arith, ones-none, sizes-sound _ _ B i .1)), sizes-ascending _ _)
