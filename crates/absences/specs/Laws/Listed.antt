@@ -70,14 +70,21 @@ module _ (table : Table) (P : ℕ) where
           let later : suc u ≤ v = omega arith in
           (omega (arith, row-next r n u f, ih later .0), ap (rank table P) (row-next r n u f) ∙ ih later .1)
 
-  at-rank : (r : ℕ) → r < table .rows → (rowAt table P r < 0 + table .rows) × (rank table P (rowAt table P r) ≡ r)
-  at-rank r l = let v = rank-onto table P r l in found _ _ _ (v .0) (omega arith) (omega (arith, v .1)) (v .2)
+  found-row : (r : ℕ) → r < table .rows → (rowFrom table P r (table .rows) 0 < 0 + table .rows) × (rank table P (rowFrom table P r (table .rows) 0) ≡ r)
+  found-row r l = let v = rank-onto table P r l in found r (table .rows) 0 (v .0) (omega arith) (omega (arith, v .1)) (v .2)
+
+  found-lt : (r : ℕ) → r < table .rows → rowFrom table P r (table .rows) 0 < table .rows
+  found-lt r l = omega (arith, found-row r l .0)
+
+  found-rank : (r : ℕ) → r < table .rows → rank table P (rowFrom table P r (table .rows) 0) ≡ r
+  found-rank r l = found-row r l .1
 
   pub rowAt-lt : (r : ℕ) → r < table .rows → rowAt table P r < table .rows
-  rowAt-lt r l = omega (arith, at-rank r l .0)
+  rowAt-lt r l = found-lt _ (omega arith)
 
+  -- the rows are taken in ascending order of rank
   pub rank-rowAt : (r : ℕ) → r < table .rows → rank table P (rowAt table P r) ≡ r
-  rank-rowAt r l = at-rank r l .1
+  rank-rowAt r l = let here : rank table P (rowAt table P r) ≡ _ = found-rank _ (omega arith) in here ∙ omega arith
 
   pub rowAt-rank : (u : ℕ) → u < table .rows → rowAt table P (rank table P u) ≡ u
   rowAt-rank u l =
