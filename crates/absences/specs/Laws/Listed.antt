@@ -4,7 +4,7 @@
 -- not, where they agree on all lower ranks. One proof serves both searches. Assumes nothing.
 use mathlib.Core.Path.{_≡_, refl, sym, ap, _∙_, subst}
 use mathlib.Core.Logic.{_⊎_, inl, inr, _≢_, _↔_}
-use mathlib.Core.Bool.{true, false}
+use mathlib.Core.Bool.{Bool, true, false}
 use mathlib.Core.List.{List, [], _∷_, _++_, List·Memᴰ, List·Memᴰ·head, List·Memᴰ·tail, List·Memᴰ·not-nil, List·Memᴰ·eq-of-singleton, List·Memᴰ·append-cases, List·Memᴰ·cases-cons, Memᴰ·append-left, Memᴰ·append-right}
 use Prim.Native.Nat.{ℕ, zero, suc, _+_, _^_, _≤_, _<_, min}
 use native.Mathlib.Decide.{decLt, ℕ-discrete}
@@ -15,6 +15,7 @@ use lib.Dec.{T}
 use lib.Pow.{pow-pos}
 use borrow.Author.Tests.{eqb-true, eq-eqb, ne-eqb}
 use Rattle.sets.specs.Sets.{bit, Has, bit-le, bit-none, bit-high, with, with-lt, bit-with-same, bit-with-other, ones-with, ones-none, ones-empty, ext, sub-eq, sub-of-test, test-of-sub}
+use Rattle.sets.specs.Sums.{toN}
 use Rattle.sets.specs.Laws.Sums.{either, toN-yes, true-of-toN}
 use Rattle.sets.specs.Laws.Build.{setOf-bit, setOf-high}
 use Rattle.roster.specs.declared.Table.{Table}
@@ -113,13 +114,16 @@ must-rank : (way : Way) (table : Table) (P u v : ℕ) → u < table .rows → Mu
 must-rank full table P u v l m = absurd m
 must-rank skipping table P u v l m = outweighs-rank table P u v l m
 
+-- a set that has u by a test has it exactly if u outweighs v, if the test is that of outweighing
+by-test : (table : Table) (P u v m : ℕ) (test : Bool) → bit m u ≡ toN test → test ≡ outweighsb table P u v → Has m u ↔ Outweighs table P u v
+by-test table P u v m test here e = (
+  λ h. outweighs-iff table P u v .1 (subst T (sym (true-of-toN test (sym here ∙ h)) ∙ e) tt),
+  λ o. here ∙ toN-yes test (subst T (sym e) (outweighs-iff table P u v .0 o)),
+)
+
 -- the set of the rows that outweigh v has those, and no others
 pub outweighers-iff : (table : Table) (P u v : ℕ) → u < table .rows → Has (outweighers table P v) u ↔ Outweighs table P u v
-outweighers-iff table P u v l =
-    let here = setOf-bit (table .rows) _ u l in (
-      λ h. outweighs-iff table P u v .1 (subst T (sym (true-of-toN _ (sym here ∙ h))) tt),
-      λ o. here ∙ toN-yes _ (outweighs-iff table P u v .0 o),
-    )
+outweighers-iff table P u v l = by-test table P u v _ _ (setOf-bit (table .rows) _ u l) (cc)
 
 -- a row joins F exactly if all that has to be absent with it is in F
 pub joins-iff : (way : Way) (table : Table) (P F v : ℕ)
