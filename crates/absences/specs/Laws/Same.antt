@@ -24,7 +24,8 @@ use Rattle.crews.specs.Laws.Same.{same-filling}
 use Rattle.absences.specs.Tried.{rowFrom, rowAt, Way, full, skipping, joins, listed, sizesFrom, sizesTo, tried, Found, unitsOf, weighed}
 use Rattle.absences.specs.Asked.{PolicyReply}
 use Rattle.absences.specs.Replied.{repliedBy, policyReplyOf}
-use Rattle.absences.specs.Laws.Listed.{row-here, row-next, rowAt-lt, listed-joins, listed-not, none-more, none-left}
+use Rattle.absences.specs.Laws.Rows.{row-here, row-next, rowAt-lt}
+use Rattle.absences.specs.Laws.OneSize.{listed-joins, listed-not, none-more, none-left}
 use Rattle.absences.specs.Laws.Weighed.{dearer, weighed-fits, weighed-blocks}
 use Rattle.absences.specs.Laws.Demands.{policy-is}
 

@@ -15,7 +15,7 @@ use Rattle.roster.specs.Meaning.{Earlier}
 use Rattle.roster.specs.Laws.Order.{earlier-irrefl}
 use Rattle.crews.specs.Filling.{Outcome, filling}
 use Rattle.absences.specs.Tried.{rowAt, full, skipping, joins, listed, sizesFrom, tried, Found, unitsOf, weighed}
-use Rattle.absences.specs.Laws.Listed.{Ascending, listed-joins, listed-not}
+use Rattle.absences.specs.Laws.OneSize.{Ascending, listed-joins, listed-not}
 
 -- a test has one outcome
 pub clash : {b : Bool} → b ≡ true → b ≡ false → ⊥
