@@ -6,7 +6,7 @@ use Prim.Native.Nat.{ℕ, zero, suc, _+_, _≤_, _<_}
 use native.Mathlib.Decide.{decLt, ℕ-discrete}
 use native.Mathlib.Omega.{arith}
 use lib.Bits.{bitAnd}
-use lib.Dec.{T}
+use lib.Dec.{T, eqb}
 use borrow.Author.Tests.{eqb-true, eq-eqb, ne-eqb}
 use Rattle.sets.specs.Sets.{bit, Has, bit-le, sub-of-test, test-of-sub}
 use Rattle.sets.specs.Sums.{toN}
@@ -93,7 +93,9 @@ pub joins-iff : (way : Way) (table : Table) (P F v : ℕ)
 unfolding joins
 joins-iff full table P F v = (λ e u l m. absurd m, λ f. refl)
 joins-iff skipping table P F v = (
-  λ e u l m. omega (arith, sub-of-test above F (eqb-true (bitAnd above F) above e) u, outweighers-iff table P u v l .1 m, bit-le F u),
+  λ e u l m.
+      let tested : eqb (bitAnd above F) above ≡ true = cc in
+      omega (arith, sub-of-test above F (eqb-true (bitAnd above F) above tested) u, outweighers-iff table P u v l .1 m, bit-le F u),
   λ f. eq-eqb (bitAnd above F) above (test-of-sub above F (λ i. in-F f i (decLt i (table .rows)) (ℕ-discrete (bit above i) 1))),
 )
   where
