@@ -1,4 +1,4 @@
--- One absence tried: a unit, and what filling the crews from the rows that are left comes to. Assumes nothing.
+-- One absence tried: what it costs, and what filling the crews from the rows that are left comes to. Assumes nothing.
 use mathlib.Core.Path.{_≡_, sym, ap, ap₂, _∙_}
 use mathlib.Core.Logic.{⊎-elim}
 use mathlib.Core.List.{List, [], _∷_}
@@ -18,20 +18,27 @@ use Rattle.crews.specs.Filled.{tabulate, at, filledOf, foundFrom}
 use Rattle.crews.specs.Laws.Arrays.{lent-filling}
 use Rattle.crews.specs.Laws.Steps as steps
 use Rattle.absences.specs.declared.Search.{Search}
-use Rattle.absences.specs.Tried.{Found, unitsOf, weighed}
+use Rattle.absences.specs.Tried.{Found, perAbsence, unitsOf, weighed}
 use Rattle.absences.specs.Walk.{Lent, courseOf, walkedFrom, walkedOf}
 use Rattle.absences.specs.Laws.Weighed.{weighed-fits, weighed-blocks, weighed-none, dearer}
 use Rattle.absences.proofs.Spent.{undecidedAt, walked-fits, walked-over}
 
 -- filling from what is lent is 01's filling with A absent
 module _ (table : Table) (s : Search) (holds holders : List ℕ) (lent : Lent table s holds holders) where
-  pub fills : (free A : ℕ) → free ≡ bitAnd (s .everyone) ((2 ^ rowLimit - 1) - A)
+  fills : (free A : ℕ) → free ≡ bitAnd (s .everyone) ((2 ^ rowLimit - 1) - A)
       → foundFrom (plainly (at holds) (at holders) (s .task) (s .crews) (s .size)) free ≡ filling table (s .task) (s .crews) (s .size) A
   fills free A e =
       ap₂ (λ (h k : List ℕ). foundFrom (plainly (at h) (at k) (s .task) (s .crews) (s .size)) free) (lent .held)
       (lent .holding ∙ ap (λ (h : List ℕ). tabulate 32 (holdersOf (at h))) (lent .held))
       ∙ ap (foundFrom _) (e ∙ ap (λ (all : ℕ). bitAnd all ((2 ^ rowLimit - 1) - A)) (lent .everyone))
       ∙ lent-filling table (s .task) (s .crews) (s .size) A (lent .small) (lent .some) (lent .wide) (lent .few)
+
+  -- so what `fill` answers is what the definition says of A, if the units it began with are those spent before and what an absence costs
+  pub answered : (most spent n free A : ℕ) (r : Filled)
+      → r ≡ filledOf most n (foundFrom (plainly (at holds) (at holders) (s .task) (s .crews) (s .size)) free)
+      → free ≡ bitAnd (s .everyone) ((2 ^ rowLimit - 1) - A) → n ≡ spent + perAbsence
+      → r ≡ filledOf most (spent + perAbsence) (filling table (s .task) (s .crews) (s .size) A)
+  answered most spent n free A r e f paid = e ∙ ap₂ (filledOf most) paid (fills free A f)
 
   -- with nobody absent everyone is left
   pub nobody : s .everyone ≡ bitAnd (s .everyone) ((2 ^ rowLimit - 1) - 0)
@@ -40,52 +47,52 @@ module _ (table : Table) (s : Search) (holds holders : List ℕ) (lent : Lent ta
       sym (and-mask (s .everyone) 64 ∙ mod-eq-of-lt wide)
 
 -- whether it blocks or not
-alone-costs : (table : Table) (P d t A : ℕ) → weighed table P d t (A ∷ []) .need ≡ 1 + filling table P d t A .need
+alone-costs : (table : Table) (P d t A : ℕ) → weighed table P d t (A ∷ []) .need ≡ unitsOf (filling table P d t A)
 alone-costs table P d t A =
-    let n = 1 + filling table P d t A .need in
+    let n = unitsOf (filling table P d t A) in
     ⊎-elim
     (λ b. ap (λ (w : Found). w .need) (weighed-fits table P d t A [] b ∙ ap (dearer n) (weighed-none table P d t)) ∙ add-zero n)
     (λ b. ap (λ (w : Found). w .need) (weighed-blocks table P d t A [] b))
     (either (filling table P d t A .found))
 
-module _ (table : Table) (P d t most spent A : ℕ) (r : Filled) (e : r ≡ filledOf most (spent + 1) (filling table P d t A)) where
+module _ (table : Table) (P d t most spent A : ℕ) (r : Filled) (e : r ≡ filledOf most (spent + perAbsence) (filling table P d t A)) where
   abbrev o : Outcome
   o = filling table P d t A
 
   abbrev alone : Found
   alone = weighed table P d t (A ∷ [])
 
-  alone-need : alone .need ≡ 1 + o .need
+  alone-need : alone .need ≡ unitsOf o
   alone-need = alone-costs table P d t A
 
-  units : (spent + 1) + o .need ≤ most → r .units ≡ spent + alone .need
-  units h = ap (λ (x : Filled). x .units) (e ∙ steps.filled-fits most (spent + 1) o h) ∙ omega (arith, alone-need)
+  units : (spent + perAbsence) + o .need ≤ most → r .units ≡ spent + alone .need
+  units h = ap (λ (x : Filled). x .units) (e ∙ steps.filled-fits most (spent + perAbsence) o h) ∙ omega (arith, alone-need)
 
   -- an outcome that the allowance is enough for
-  fits : (w : Found) → alone ≡ w → (spent + 1) + o .need ≤ most → record { course = courseOf (w .blocked); blocker = w .blocker; units = r .units } ≡ walkedOf most spent alone
+  fits : (w : Found) → alone ≡ w → (spent + perAbsence) + o .need ≤ most → record { course = courseOf (w .blocked); blocker = w .blocker; units = r .units } ≡ walkedOf most spent alone
   fits w f h =
       ap₂ (λ (x : Found) (n : ℕ). record { course = courseOf (x .blocked); blocker = x .blocker; units = n }) (sym f) (units h)
       ∙ sym (walked-fits most spent alone (omega (arith, alone-need)))
 
   -- what the filling says of the absence
   pub absent-told : walkedFrom (r .ending) A (r .units) ≡ walkedOf most spent alone
-  absent-told = go (steps.judge most (spent + 1) o r e)
+  absent-told = go (steps.judge most (spent + perAbsence) o r e)
     where
       told : (x : Ending) → r .ending ≡ x → walkedFrom (r .ending) A (r .units) ≡ walkedFrom x A (r .units)
       told x q = ap (λ (y : Ending). walkedFrom y A (r .units)) q
 
-      go : steps.Judged most (spent + 1) o r → walkedFrom (r .ending) A (r .units) ≡ walkedOf most spent alone
+      go : steps.Judged most (spent + perAbsence) o r → walkedFrom (r .ending) A (r .units) ≡ walkedOf most spent alone
       go (steps.is-complete b w h) =
           told ending.Complete w
           ∙ fits _ (weighed-fits table P d t A [] b ∙ ap (dearer (unitsOf o)) (weighed-none table P d t)) h
       go (steps.is-exhausted b w u l) = told ending.Exhausted w ∙ fits _ (weighed-blocks table P d t A [] b) (omega arith)
       go (steps.is-over h w) =
           told ending.Undecided w
-          ∙ ap undecidedAt (ap (λ (x : Filled). x .units) (e ∙ steps.filled-over most (spent + 1) o h))
+          ∙ ap undecidedAt (ap (λ (x : Filled). x .units) (e ∙ steps.filled-over most (spent + perAbsence) o h))
           ∙ sym (walked-over most spent alone (omega (arith, alone-need)))
 
--- no unit is left to try it
-pub absent-spent : (table : Table) (P d t most spent A : ℕ) → spent ≤ most → most ≤ spent
+-- too few units are left to try it
+pub absent-spent : (table : Table) (P d t most spent A : ℕ) → most < spent + perAbsence
     → undecidedAt most ≡ walkedOf most spent (weighed table P d t (A ∷ []))
-absent-spent table P d t most spent A l m =
+absent-spent table P d t most spent A l =
     sym (walked-over most spent (weighed table P d t (A ∷ [])) (omega (arith, alone-costs table P d t A)))

@@ -13,7 +13,7 @@ use Rattle.roster.specs.declared.Table.{Table}
 use Rattle.roster.specs.Meaning.{rank, Outweighs}
 use Rattle.roster.specs.Laws.Rank.{rank-inj, outweighsb, outweighs-iff, outweighs-rank, outweighs-trans}
 use Rattle.absences.specs.Tried.{full, skipping, rowAt, joins}
-use Rattle.absences.specs.Laws.Listed.{rowAt-lt, rank-rowAt, joins-iff}
+use Rattle.absences.specs.Laws.Rows.{rowAt-lt, rank-rowAt, joins-iff}
 use Rattle.absences.specs.Laws.Weighed.{clash}
 use Rattle.absences.specs.declared.Prefix.{Prefix}
 use Rattle.absences.specs.Walk.{takenBy, passedBy, leftBy, Over, nobody}

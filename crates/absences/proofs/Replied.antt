@@ -23,7 +23,7 @@ use Rattle.absences.specs.declared.Search.{Search}
 use Rattle.absences.specs.declared.Course.{Course}
 use Rattle.absences.specs.declared.Course.the-variants.{Open, Blocked, Undecided}
 use Rattle.absences.specs.declared.Walked.{Walked}
-use Rattle.absences.specs.Tried.{Way, tried, Found, weighed}
+use Rattle.absences.specs.Tried.{Way, tried, Found, perAbsence, weighed}
 use Rattle.absences.specs.Replied.{repliedBy, policyReplyOf}
 use Rattle.absences.specs.Walk.{courseOf, walkedFrom, walkedOf, walkedBy, sized, replyFrom, searchedBy}
 use Rattle.absences.specs.Laws.Weighed.{andThen, weighed-append}
@@ -54,13 +54,13 @@ reply-told most w r crews e = go (judge most 0 w r e)
 
 -- the first absence tried is that of nobody, and `first` is what its filling says
 module _ (table : Table) (s : Search) (most : ℕ) (first : Filled)
-    (e : first ≡ filledOf (s .allowance) 1 (filling table (s .task) (s .crews) (s .size) 0)) (nobody : Walked)
+    (e : first ≡ filledOf (s .allowance) perAbsence (filling table (s .task) (s .crews) (s .size) 0)) (nobody : Walked)
     (f : nobody ≡ walkedFrom (first .ending) 0 (first .units)) where
   abbrev tries : List ℕ → Found
   tries = weighed table (s .task) (s .crews) (s .size)
 
   abbrev rest : List ℕ
-  rest = sized table s most 1
+  rest = sized table s most
 
   abbrev crews : List ℕ
   crews = filling table (s .task) (s .crews) (s .size) 0 .crews
@@ -81,10 +81,10 @@ module _ (table : Table) (s : Search) (most : ℕ) (first : Filled)
 
   -- where nobody absent does not block, the filling has the first list
   pub crews-first : nobody .course ≡ Open → first .crews ≡ crews
-  crews-first o = go (steps.judge (s .allowance) 1 (filling table (s .task) (s .crews) (s .size) 0) first e)
+  crews-first o = go (steps.judge (s .allowance) perAbsence (filling table (s .task) (s .crews) (s .size) 0) first e)
     where
-      go : steps.Judged (s .allowance) 1 (filling table (s .task) (s .crews) (s .size) 0) first → first .crews ≡ crews
-      go (steps.is-complete b w h) = ap (λ (x : Filled). x .crews) (e ∙ steps.filled-fits (s .allowance) 1 (filling table (s .task) (s .crews) (s .size) 0) h)
+      go : steps.Judged (s .allowance) perAbsence (filling table (s .task) (s .crews) (s .size) 0) first → first .crews ≡ crews
+      go (steps.is-complete b w h) = ap (λ (x : Filled). x .crews) (e ∙ steps.filled-fits (s .allowance) perAbsence (filling table (s .task) (s .crews) (s .size) 0) h)
       go (steps.is-exhausted b w u l) = absurd (open-blocked _ o (course-is ending.Exhausted Blocked w refl))
       go (steps.is-over h w) = absurd (open-undecided _ o (course-is ending.Undecided Undecided w refl))
 

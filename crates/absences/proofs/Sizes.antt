@@ -1,73 +1,61 @@
--- The sizes one after the other: trying nobody absent and then the sizes from 1 on is trying all that 01 lists. Assumes nothing.
-use mathlib.Core.Path.{_≡_, refl, sym, ap, ap₂, _∙_}
+-- The sizes one after the other: what one size comes to, and then the rest at the units that it took. Assumes nothing.
+use mathlib.Core.Path.{_≡_, sym, ap, ap₂, _∙_}
 use mathlib.Core.Logic.{_≢_}
-use mathlib.Core.List.{List, _∷_, _++_, append-nil}
-use Prim.Native.Nat.{ℕ, zero, suc, _+_, _-_, _≤_, _<_, min}
+use mathlib.Core.List.{List, _++_}
+use Prim.Native.Nat.{ℕ, suc, _+_, _-_, _≤_, _<_}
 use native.Mathlib.Nat.{sub-zero}
 use native.Mathlib.Omega.{arith}
 use Rattle.roster.specs.declared.Table.{Table}
 use Rattle.absences.specs.declared.Search.{Search}
 use Rattle.absences.specs.declared.Course.the-variants.{Open}
 use Rattle.absences.specs.declared.Walked.{Walked}
-use Rattle.absences.specs.Tried.{listed, sizesFrom, tried, Found, weighed}
-use Rattle.absences.specs.Walk.{wayOf, walkedOf, walkedBy, onward, nobody, sized}
+use Rattle.absences.specs.Tried.{listed, sizesFrom, Found, weighed}
+use Rattle.absences.specs.Walk.{wayOf, walkedOf, walkedBy, onward, nobody}
 use Rattle.absences.specs.Laws.Weighed.{andThen, weighed-append, weighed-none}
 use Rattle.absences.proofs.Spent.{openAt, walked-none, turn-open, turn-stopped}
-use Rattle.absences.proofs.Turns.{turn-whole}
+
+-- the absences of the n sizes from k on
+abbrev pub from : Table → Search → ℕ → ℕ → List ℕ
+from table s n k = sizesFrom (wayOf (s .skipping)) table (s .task) n k
 
 module _ (table : Table) (s : Search) where
   all-ranks : (k : ℕ) → listed (wayOf (s .skipping)) table (s .task) (table .rows) k 0 0 ≡ onward table s k nobody
   all-ranks k = ap (λ (m : ℕ). listed (wayOf (s .skipping)) table (s .task) m k 0 0) (sym (sub-zero (table .rows)))
 
-  sizes-sized : (n k : ℕ) → sizesFrom (wayOf (s .skipping)) table (s .task) n k ≡ sized table s (suc n) k
-  unfolding sizesFrom sized
-  sizes-sized zero k = all-ranks k ∙ sym (append-nil (onward table s k nobody))
-  sizes-sized (suc n) k = ap₂ _++_ (all-ranks k) (sizes-sized n (suc k))
-
-  -- all that is tried
-  pub tried-sized : (away : ℕ) → tried (wayOf (s .skipping)) table (s .task) away ≡ 0 ∷ sized table s (min away (table .rows)) 1
-  unfolding sized
-  tried-sized away =
-      sizes-sized (min away (table .rows)) 0
-      ∙ ap (λ (l : List ℕ). l ++ sized table s (min away (table .rows)) 1) (sym (turn-whole table s 0 nobody refl))
-
-  -- ---- one size
-
   module _ (most k units : ℕ) where
     abbrev rest : List ℕ
-    rest = sized table s ((most + 1) - (k + 1)) (k + 1)
+    rest = from table s ((most + 1) - (k + 1)) (k + 1)
 
     abbrev tries : List ℕ → Found
     tries = weighed table (s .task) (s .crews) (s .size)
 
     -- no size is left
-    pub sizes-end : most < k → units ≤ s .allowance → openAt units ≡ walkedBy table s units (sized table s ((most + 1) - k) k)
-    unfolding sized
+    pub sizes-end : most < k → units ≤ s .allowance → openAt units ≡ walkedBy table s units (from table s ((most + 1) - k) k)
+    unfolding sizesFrom
     sizes-end l h =
         let z : (most + 1) - k ≡ 0 = omega arith in
-        walked-none (s .allowance) units (tries (sized table s ((most + 1) - k) k))
-        (ap (λ (n : ℕ). tries (sized table s n k)) z ∙ weighed-none table (s .task) (s .crews) (s .size)) h
+        walked-none (s .allowance) units (tries (from table s ((most + 1) - k) k))
+        (ap (λ (n : ℕ). tries (from table s n k)) z ∙ weighed-none table (s .task) (s .crews) (s .size)) h
 
     -- the absences of this size come to c
     module _ (l : k ≤ most) (c : Walked) (h : c ≡ walkedBy table s units (onward table s k nobody)) where
-      unrolled : sized table s ((most + 1) - k) k ≡ onward table s k nobody ++ rest
-      unfolding sized
+      unrolled : from table s ((most + 1) - k) k ≡ onward table s k nobody ++ rest
+      unfolding sizesFrom
       unrolled =
           let one : (most + 1) - k ≡ suc ((most + 1) - (k + 1)) = omega arith in
           let next : suc k ≡ k + 1 = omega arith in
-          ap (λ (n : ℕ). sized table s n k) one
-          ∙ ap (λ (j : ℕ). onward table s k nobody ++ sized table s ((most + 1) - (k + 1)) j) next
+          ap (λ (n : ℕ). from table s n k) one ∙ ap₂ _++_ (all-ranks k) (ap (λ (j : ℕ). from table s ((most + 1) - (k + 1)) j) next)
 
-      both : walkedBy table s units (sized table s ((most + 1) - k) k) ≡ walkedOf (s .allowance) units (andThen (tries (onward table s k nobody)) (tries rest))
+      both : walkedBy table s units (from table s ((most + 1) - k) k) ≡ walkedOf (s .allowance) units (andThen (tries (onward table s k nobody)) (tries rest))
       both =
           ap (walkedBy table s units) unrolled
           ∙ ap (walkedOf (s .allowance) units) (weighed-append table (s .task) (s .crews) (s .size) (onward table s k nobody) rest)
 
       pub size-none : c .course ≡ Open
-          → (walkedBy table s units (sized table s ((most + 1) - k) k) ≡ walkedBy table s (c .units) rest) × (c .units ≤ s .allowance)
+          → (walkedBy table s units (from table s ((most + 1) - k) k) ≡ walkedBy table s (c .units) rest) × (c .units ≤ s .allowance)
       size-none o =
           let w = turn-open (s .allowance) units (tries (onward table s k nobody)) (tries rest) c h o in
           (both ∙ w .0, w .1)
 
-      pub size-stops : c .course ≢ Open → c ≡ walkedBy table s units (sized table s ((most + 1) - k) k)
+      pub size-stops : c .course ≢ Open → c ≡ walkedBy table s units (from table s ((most + 1) - k) k)
       size-stops o = turn-stopped (s .allowance) units (tries (onward table s k nobody)) (tries rest) c h o ∙ sym both

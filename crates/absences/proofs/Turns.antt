@@ -19,7 +19,8 @@ use Rattle.absences.specs.declared.Prefix.{Prefix}
 use Rattle.absences.specs.declared.Walked.{Walked}
 use Rattle.absences.specs.Tried.{Way, skipping, rowAt, joins, listed, Found, weighed}
 use Rattle.absences.specs.Walk.{outweighsBy, MayJoin, wayOf, Lent, Ranked, takenBy, passedBy, leftBy, Stands, walkedOf, walkedBy, onward}
-use Rattle.absences.specs.Laws.Listed.{rowAt-lt, listed-joins, listed-not, none-more, none-left}
+use Rattle.absences.specs.Laws.Rows.{rowAt-lt}
+use Rattle.absences.specs.Laws.OneSize.{listed-joins, listed-not, none-more, none-left}
 use Rattle.absences.specs.Laws.Weighed.{andThen, weighed-append, weighed-none}
 use Rattle.absences.proofs.Rank.{within-of, outweighs-same}
 use Rattle.absences.proofs.Spent.{openAt, walked-none, turn-open, turn-stopped}

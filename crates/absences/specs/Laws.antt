@@ -1,3 +1,5 @@
+pub mod Rows
+pub mod OneSize
 pub mod Listed
 pub mod Only
 pub mod Weighed

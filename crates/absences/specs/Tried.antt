@@ -46,14 +46,18 @@ listed way table P (suc m) (suc k) r F =
     ]
     ++ listed way table P m (suc k) (suc r) F
 
--- those of size k, then those of the n sizes that follow
+-- those of the n sizes from k on
 unfoldable pub sizesFrom : Way → Table → ℕ → ℕ → ℕ → List ℕ
-sizesFrom way table P zero k = listed way table P (table .rows) k 0 0
+sizesFrom way table P zero k = []
 sizesFrom way table P (suc n) k = listed way table P (table .rows) k 0 0 ++ sizesFrom way table P n (suc k)
 
--- "By size, from 0 to the smaller of s and the row count"
+-- those of the sizes 1 to `most`
+abbrev pub sizesTo : Way → Table → ℕ → ℕ → List ℕ
+sizesTo way table P most = sizesFrom way table P most 1
+
+-- "By size, from 0 to the smaller of s and the row count"; of size 0 there is nobody absent, and no other
 abbrev pub tried : Way → Table → ℕ → ℕ → List ℕ
-tried way table P s = sizesFrom way table P (min s (table .rows)) 0
+tried way table P s = 0 ∷ sizesTo way table P (min s (table .rows))
 
 -- What trying absences one after the other comes to: whether one blocks, which, and the units.
 pub record Found : Type 0 where
@@ -62,8 +66,11 @@ pub record Found : Type 0 where
   pub need : ℕ
 
 -- "An absence tried costs one unit plus its placements."
+abbrev pub perAbsence : ℕ
+perAbsence = 1
+
 abbrev pub unitsOf : Outcome → ℕ
-unitsOf o = 1 + o .need
+unitsOf o = perAbsence + o .need
 
 -- "The need of a policy question is the sum over the absences tried, up to and including the first that blocks, or all if none does."
 unfoldable pub weighed : Table → ℕ → ℕ → ℕ → List ℕ → Found

@@ -252,7 +252,7 @@ walk-returns-3 : (t : ℕ) → walk-lts.Need-returns-3 (callees t) (walk-at t) w
 walk-returns-3 t c table lent ranked stands =
     let a = c .before .before .before .before .before .args in
     let l = c .before .before .before .loop in
-    turns.turn-ends table (a .search) (a .wanted) (l .prefix) (l .units) (lent .rows) (c .if2 .left) (l .inv .1)
+    turns.turn-ends table (a .search) (a .wanted) (l .prefix) (l .units) (lent .rows) (omega (arith, c .if2 .left)) (l .inv .1)
     ∙ sym (l .inv .2 table lent ranked stands .1)
 
 pub +walk-spec : {M : Type 1} → statement M

@@ -1,7 +1,6 @@
 -- A refused question is answered by its refusal. For an admitted one, what is worked out of the table is what the search is to be lent
 -- (`lends`, `ranks`), and what it tries is all that 01 lists. Assumes nothing.
 use mathlib.Core.Path.{_≡_, refl, sym, ap, _∙_}
-use mathlib.Core.List.{List}
 use Prim.Native.Nat.{ℕ}
 use native.Mathlib.Omega.{arith}
 use borrow.Author.Needs.{needs}
@@ -9,14 +8,10 @@ use Rattle.sets.specs.Sets.{below-within}
 use Rattle.roster.specs.declared.Ruling.the-variants.{Admitted}
 use Rattle.roster.specs.Refusals.{policyRuling}
 use Rattle.roster.specs.Laws.Rulings as rulings
-use Rattle.crews.specs.Named.{firstList}
 use Rattle.absences.specs.declared.Search.{Search}
-use Rattle.absences.specs.Tried.{weighed}
-use Rattle.absences.specs.Replied.{repliedBy}
 use Rattle.absences.specs.Walk.{wayOf, Lent, Ranked, searchedBy}
 use Rattle.absences.proofs.Rank.{within-of, order-at}
 use Rattle.absences.proofs.Replied.{ruled}
-use Rattle.absences.proofs.Sizes.{tried-sized}
 use Rattle.absences.proofs.ask.Statement.{statement}
 use Rattle.absences.proofs.ask.Tie as tie
 
@@ -95,7 +90,8 @@ ranks c = record {
 search-all-requires : tie.Need-search-all-requires
 search-all-requires c κs =
     let a = c .before .before .before .before .before .before .before .before .before .before .before .before .before .args in
-    ((a .table, lends c, ranks c), omega (arith, c .smaller .ensures, limits (c .before .before .before .before .before .before .before .before .before .before) .rows))
+    let within = limits (c .before .before .before .before .before .before .before .before .before .before) in
+    ((a .table, lends c, ranks c), omega (arith, c .smaller .ensures, within .rows, within .away))
 
 returns : tie.Need-returns
 returns c =
@@ -108,8 +104,6 @@ returns-2 c =
     let a = k .before .before .before .before .before .before .before .before .before .before .before .before .before .args in
     c .search-all .ensures (a .table) (lends k) (ranks k)
     ∙ ap (λ (n : ℕ). searchedBy (a .table) (searching k) n) (k .smaller .ensures)
-    ∙ ap (λ (l : List ℕ). repliedBy Admitted (weighed (a .table) (a .task) (a .crews) (a .size) l) (firstList (a .table) (a .task) (a .crews) (a .size) 0) (a .allowance))
-    (sym (tried-sized (a .table) (searching k) (a .away)))
     ∙ sym (ruled (wayOf (a .skipping)) (a .table) (a .task) (a .away) (a .crews) (a .size) (a .allowance) _ (admitted (k .before .before .before .before .before .before .before .before .before .before)))
 
 pub ask-spec : {M : Type 1} → statement M

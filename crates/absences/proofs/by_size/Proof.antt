@@ -1,6 +1,6 @@
 -- The loop's invariant, for every table that what is lent is of: what is to be answered is what the sizes from `size` on come to at `units`.
 -- Assumes nothing.
-use mathlib.Core.Path.{_≡_, sym, ap, _∙_}
+use mathlib.Core.Path.{_≡_, sym, ap₂, _∙_}
 use mathlib.Core.Logic.{⊎-elim}
 use Prim.Native.Nat.{ℕ, _+_, _-_, _≤_}
 use native.Mathlib.Omega.{arith}
@@ -9,7 +9,7 @@ use denote.Ref.{now}
 use Rattle.roster.specs.declared.Table.{Table}
 use Rattle.absences.specs.Walk.{Lent, Ranked, nobody, walkedBy, onward, sized}
 use Rattle.absences.proofs.Over.{over-none}
-use Rattle.absences.proofs.Sizes.{sizes-end, size-none, size-stops}
+use Rattle.absences.proofs.Sizes.{from, sizes-end, size-none, size-stops}
 use Rattle.absences.proofs.by_size.Statement.{statement}
 use Rattle.absences.proofs.by_size.Tie as tie
 
@@ -17,15 +17,18 @@ abbrev Inv-loop : tie.InvT-loop
 Inv-loop search holds holders order most spent nobody size₀ units₀ size units =
     (size ≤ most + 1) × (units ≤ search .allowance)
     × ((table : Table) → Lent table search holds holders → Ranked table search order
-    → walkedBy table search spent (sized table search most 1) ≡ walkedBy table search units (sized table search ((most + 1) - size) size))
+    → walkedBy table search spent (sized table search most) ≡ walkedBy table search units (from table search ((most + 1) - size) size))
 
 abbrev μ-loop : tie.MeasureT-loop
 μ-loop search holds holders order most spent nobody size₀ units₀ size units = (most + 1) - size
 
 loop-holds : tie.Need-loop-holds Inv-loop μ-loop
-loop-holds c =
-    let one : c .args .most ≡ (c .args .most + 1) - 1 = omega arith in
-    (omega arith, c .pre .2, λ table lent ranked. ap (λ (n : ℕ). walkedBy table (c .args .search) (c .args .spent) (sized table (c .args .search) n 1)) one)
+loop-holds c = (
+  omega arith,
+  c .pre .2,
+  -- all sizes are still to come, from the first on
+  λ table lent ranked. ap₂ (λ (n k : ℕ). walkedBy table (c .args .search) (c .args .spent) (from table (c .args .search) n k)) (omega arith) (omega arith),
+)
 
 walk-requires : tie.Need-walk-requires Inv-loop μ-loop
 walk-requires c κs =
@@ -66,8 +69,8 @@ loop-again c =
     let l = k .before .before .loop in
     let lt = k .before .loop-test .taken in
     let none : (table : Table) → Lent table (a .search) (now (a .holds)) (now (a .holders)) → Ranked table (a .search) (now (a .order))
-    → (walkedBy table (a .search) (l .units) (sized table (a .search) ((a .most + 1) - l .size) (l .size))
-    ≡ walkedBy table (a .search) (k .walk .result .units) (sized table (a .search) ((a .most + 1) - (l .size + 1)) (l .size + 1)))
+    → (walkedBy table (a .search) (l .units) (from table (a .search) ((a .most + 1) - l .size) (l .size))
+    ≡ walkedBy table (a .search) (k .walk .result .units) (from table (a .search) ((a .most + 1) - (l .size + 1)) (l .size + 1)))
     × (k .walk .result .units ≤ a .search .allowance) =
     λ table lent ranked.
     size-none table (a .search) (a .most) (l .size) (l .units) lt (k .walk .result) (walked k table lent ranked) (c .enum-told .given .1) in

@@ -1,5 +1,5 @@
--- Nobody absent first, at one unit; if that does not block, the sizes from 1 on at what it took. Assumes nothing.
-use mathlib.Core.Path.{_≡_, ap, _∙_}
+-- Nobody absent first, at what an absence costs; if that does not block, the sizes from 1 on at what it took. Assumes nothing.
+use mathlib.Core.Path.{_≡_, _∙_}
 use mathlib.Core.Logic.{⊎-elim}
 use native.Mathlib.Omega.{arith}
 use borrow.Author.Needs.{needs}
@@ -7,8 +7,9 @@ use denote.Ref.{now}
 use Rattle.roster.specs.declared.Table.{Table}
 use Rattle.crews.specs.Filling.{filling}
 use Rattle.crews.specs.Filled.{filledOf}
+use Rattle.absences.specs.Tried.{perAbsence}
 use Rattle.absences.specs.Walk.{Lent}
-use Rattle.absences.proofs.Absent.{fills, nobody}
+use Rattle.absences.proofs.Absent.{answered, nobody}
 use Rattle.absences.proofs.Replied.{within-first, all-open, all-stopped}
 use Rattle.absences.proofs.search_all.Statement.{statement}
 use Rattle.absences.proofs.search_all.Tie as tie
@@ -28,12 +29,11 @@ reply-of-requires c κs = search needs
 -- what `fill` says of nobody absent
 filled : (k : tie.After-walked-by) (table : Table) → Lent table (k .before .before .before .args .search) (now (k .before .before .before .args .holds)) (now (k .before .before .before .args .holders))
     → k .before .before .fill .result
-    ≡ filledOf (k .before .before .before .args .search .allowance) 1 (filling table (k .before .before .before .args .search .task) (k .before .before .before .args .search .crews) (k .before .before .before .args .search .size) 0)
+    ≡ filledOf (k .before .before .before .args .search .allowance) perAbsence (filling table (k .before .before .before .args .search .task) (k .before .before .before .args .search .crews) (k .before .before .before .args .search .size) 0)
 filled k table lent =
     let a = k .before .before .before .args in
-    k .before .before .fill .ensures .0
-    ∙ ap (filledOf (a .search .allowance) 1)
-    (fills table (a .search) (now (a .holds)) (now (a .holders)) lent (a .search .everyone) 0 (nobody table (a .search) (now (a .holds)) (now (a .holders)) lent))
+    answered table (a .search) (now (a .holds)) (now (a .holders)) lent _ 0 _ (a .search .everyone) 0 _ (k .before .before .fill .ensures .0)
+    (nobody table (a .search) (now (a .holds)) (now (a .holders)) lent) (omega arith)
 
 returns : tie.Need-returns
 returns c table lent ranked =

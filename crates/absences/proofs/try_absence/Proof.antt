@@ -1,5 +1,5 @@
 -- What `fill` says of the rows that are left is what the definition says of the absence. Assumes nothing.
-use mathlib.Core.Path.{_≡_, refl, ap, _∙_}
+use mathlib.Core.Path.{_≡_, refl, _∙_}
 use Prim.Native.Nat.{_+_}
 use native.Mathlib.Omega.{arith}
 use borrow.Author.Needs.{needs}
@@ -7,15 +7,16 @@ use denote.Ref.{now}
 use Rattle.roster.specs.declared.Table.{Table}
 use Rattle.crews.specs.Filling.{filling}
 use Rattle.crews.specs.Filled.{filledOf}
+use Rattle.absences.specs.Tried.{perAbsence}
 use Rattle.absences.specs.Walk.{Lent}
-use Rattle.absences.proofs.Absent.{fills, absent-told, absent-spent}
+use Rattle.absences.proofs.Absent.{answered, absent-told, absent-spent}
 use Rattle.absences.proofs.try_absence.Statement.{statement}
 use Rattle.absences.proofs.try_absence.Tie as tie
 
 returns : tie.Need-returns
 returns c table lent =
     let s0 = c .before .before in
-    absent-spent table (s0 .args .search .task) (s0 .args .search .crews) (s0 .args .search .size) _ _ (s0 .args .absent) (s0 .pre) (omega (arith, c .if1 .taken))
+    absent-spent table (s0 .args .search .task) (s0 .args .search .crews) (s0 .args .search .size) _ _ (s0 .args .absent) (omega (arith, s0 .pre, c .if1 .taken))
 
 add-fill : tie.Need-add-fill
 add-fill c = search needs
@@ -27,11 +28,11 @@ fill-requires c κs = search needs
 filled : (c : tie.After-fill) (table : Table)
     → Lent table (c .before .before .before .before .args .search) (now (c .before .before .before .before .args .holds)) (now (c .before .before .before .before .args .holders))
     → c .fill .result
-    ≡ filledOf (c .before .before .before .before .args .search .allowance) (c .before .before .before .before .args .spent + 1)
+    ≡ filledOf (c .before .before .before .before .args .search .allowance) (c .before .before .before .before .args .spent + perAbsence)
     (filling table (c .before .before .before .before .args .search .task) (c .before .before .before .before .args .search .crews) (c .before .before .before .before .args .search .size) (c .before .before .before .before .args .absent))
 filled c table lent =
     let a = c .before .before .before .before .args in
-    c .fill .ensures .0 ∙ ap (filledOf (a .search .allowance) (a .spent + 1)) (fills table (a .search) (now (a .holds)) (now (a .holders)) lent _ (a .absent) refl)
+    answered table (a .search) (now (a .holds)) (now (a .holders)) lent _ (a .spent) _ _ (a .absent) _ (c .fill .ensures .0) refl (omega arith)
 
 walked-by-requires : tie.Need-walked-by-requires
 walked-by-requires c κs = search needs

@@ -1,7 +1,7 @@
 -- Each policy question falls under one row of the table "What comes back", by whichever search. The idea: `tried-sound`, `tried-complete` and
 -- `tried-ascending` say what the list is, exactness of the filling that its test is `Blocks`, and the swap (`first-tried`, `first-blocker-worth`,
 -- `none-worth-none`) that leaving out what is not worth trying loses neither the first blocker nor a "yes". Assumes nothing.
-use mathlib.Core.Path.{_≡_, refl, ap₂, subst}
+use mathlib.Core.Path.{_≡_, refl, ap, _∙_, subst}
 use mathlib.Core.Logic.{_⊎_, inl, inr}
 use mathlib.Core.Bool.{true, false}
 use Prim.Native.Nat.{ℕ, _^_, _≤_, _<_}
@@ -86,14 +86,18 @@ module _ (way : Way) (table : Table) (P s d t : ℕ) (fair : Fair table P d) whe
 -- ---- the verdict of the definition
 
 module _ (w : Found) (allowance : ℕ) where
+  -- an allowance that is just the need is enough
+  decided : w .need ≤ allowance → verdictOf w allowance ≡ judged true (w .blocked)
+  decided l = let enough = le-leb (w .need) allowance l in cc
+
   pub verdict-no : w .need ≤ allowance → w .blocked ≡ true → verdictOf w allowance ≡ No
-  verdict-no l b = ap₂ judged (le-leb (w .need) allowance l) b
+  verdict-no l b = decided l ∙ ap (judged true) b
 
   pub verdict-yes : w .need ≤ allowance → w .blocked ≡ false → verdictOf w allowance ≡ Yes
-  verdict-yes l b = ap₂ judged (le-leb (w .need) allowance l) b
+  verdict-yes l b = decided l ∙ ap (judged true) b
 
   pub verdict-late : allowance < w .need → verdictOf w allowance ≡ Undecided
-  verdict-late l = ap₂ judged (lt-leb (w .need) allowance l) refl
+  verdict-late l = let short = lt-leb (w .need) allowance l in cc
 
 -- ---- which row of the table "What comes back" a question falls under
 

@@ -10,7 +10,8 @@ use Rattle.roster.specs.Meaning.{Absence, Earlier}
 use Rattle.roster.specs.Laws.Order.{earlier-irrefl, earlier-trans}
 use Rattle.absences.specs.Tried.{Way, tried, weighed}
 use Rattle.absences.specs.Asked.{needPolicy}
-use Rattle.absences.specs.Laws.Listed.{Picked, Ascending, tried-sound, tried-complete, tried-ascending}
+use Rattle.absences.specs.Laws.OneSize.{Ascending}
+use Rattle.absences.specs.Laws.Listed.{Picked, tried-sound, tried-complete, tried-ascending}
 
 module _ (table : Table) (P : ℕ) where
   abbrev AllRows : List ℕ → Type 0

@@ -21,10 +21,11 @@ use Rattle.roster.specs.Laws.Rank.{outweighsb}
 use Rattle.roster.specs.Laws.Same.{Agree, same-rank}
 use Rattle.crews.specs.Filling.{Outcome, filling}
 use Rattle.crews.specs.Laws.Same.{same-filling}
-use Rattle.absences.specs.Tried.{rowFrom, rowAt, Way, full, skipping, joins, listed, sizesFrom, tried, Found, unitsOf, weighed}
+use Rattle.absences.specs.Tried.{rowFrom, rowAt, Way, full, skipping, joins, listed, sizesFrom, sizesTo, tried, Found, unitsOf, weighed}
 use Rattle.absences.specs.Asked.{PolicyReply}
 use Rattle.absences.specs.Replied.{repliedBy, policyReplyOf}
-use Rattle.absences.specs.Laws.Listed.{row-here, row-next, rowAt-lt, listed-joins, listed-not, none-more, none-left}
+use Rattle.absences.specs.Laws.Rows.{row-here, row-next, rowAt-lt}
+use Rattle.absences.specs.Laws.OneSize.{listed-joins, listed-not, none-more, none-left}
 use Rattle.absences.specs.Laws.Weighed.{dearer, weighed-fits, weighed-blocks}
 use Rattle.absences.specs.Laws.Demands.{policy-is}
 
@@ -83,12 +84,12 @@ module _ (table other : Table) (P : ℕ) (same : Agree table other P) where
 
   same-sizes : (way : Way) (m k : ℕ) → sizesFrom way table P m k ≡ sizesFrom way other P m k
   unfolding sizesFrom
-  same-sizes way zero k = same-size way k
-  same-sizes way (suc m) k = ap₂ (λ (x y : List ℕ). x ++ y) (same-size way k) (same-sizes way m (suc k))
+  same-sizes way zero k = refl
+  same-sizes way (suc m) k = ap₂ (λ (x y : List ℕ). x ++ y) (same-size way _) (same-sizes way m _)
 
   -- the same absences are tried
   pub same-tried : (way : Way) (s : ℕ) → tried way table P s ≡ tried way other P s
-  same-tried way s = same-sizes way (min s (table .rows)) 0 ∙ ap (λ (n : ℕ). sizesFrom way other P (min s n) 0) (same .count)
+  same-tried way s = ap (λ (l : List ℕ). 0 ∷ l) (same-sizes way _ _) ∙ ap (λ (n : ℕ). 0 ∷ sizesTo way other P (min s n)) (same .count)
 
   module _ (d t : ℕ) where
     -- and trying them comes to the same

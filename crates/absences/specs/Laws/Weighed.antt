@@ -5,7 +5,7 @@ use mathlib.Core.Path.{_≡_, refl, sym, ap, _∙_, subst}
 use mathlib.Core.Logic.{_⊎_, inl, inr, _↔_}
 use mathlib.Core.Bool.{Bool, true, false}
 use mathlib.Core.List.{List, [], _∷_, _++_, List·Memᴰ, List·Memᴰ·head, List·Memᴰ·tail, List·Memᴰ·not-nil, List·Memᴰ·cases-cons}
-use Prim.Native.Nat.{ℕ, zero, suc, _+_, _≤_, min}
+use Prim.Native.Nat.{ℕ, zero, suc, _+_, _≤_}
 use native.Mathlib.Omega.{arith}
 use lib.Dec.{T}
 use Rattle.sets.specs.Sets.{with}
@@ -15,7 +15,7 @@ use Rattle.roster.specs.Meaning.{Earlier}
 use Rattle.roster.specs.Laws.Order.{earlier-irrefl}
 use Rattle.crews.specs.Filling.{Outcome, filling}
 use Rattle.absences.specs.Tried.{rowAt, full, skipping, joins, listed, sizesFrom, tried, Found, unitsOf, weighed}
-use Rattle.absences.specs.Laws.Listed.{Ascending, listed-joins, listed-not}
+use Rattle.absences.specs.Laws.OneSize.{Ascending, listed-joins, listed-not}
 
 -- a test has one outcome
 pub clash : {b : Bool} → b ≡ true → b ≡ false → ⊥
@@ -226,11 +226,11 @@ module _ (table : Table) (P : ℕ) where
 
   sizes-thinned : (m k : ℕ) → Thinned (sizesFrom skipping table P m k) (sizesFrom full table P m k)
   unfolding sizesFrom
-  sizes-thinned zero k = listed-thinned (table .rows) k 0 0
-  sizes-thinned (suc m) k = thinned-append (listed-thinned (table .rows) k 0 0) (sizes-thinned m (suc k))
+  sizes-thinned zero k = none
+  sizes-thinned (suc m) k = thinned-append (listed-thinned (table .rows) _ 0 0) (sizes-thinned m _)
 
   pub tried-thinned : (s : ℕ) → Thinned (tried skipping table P s) (tried full table P s)
-  tried-thinned s = sizes-thinned (min s (table .rows)) 0
+  tried-thinned s = keep 0 (sizes-thinned _ _)
 
 module _ (table : Table) (P d t : ℕ) where
   abbrev need : List ℕ → ℕ
