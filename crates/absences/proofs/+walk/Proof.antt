@@ -26,7 +26,7 @@ use Rattle.absences.proofs.+walk.Lts-walk as walk-lts
 use Rattle.absences.proofs.Prefix.leaving.Reads as leaving-reads
 use Rattle.absences.proofs.Prefix.passing.Reads as passing-reads
 use Rattle.absences.proofs.Prefix.taking.Reads as taking-reads
-use Rattle.absences.proofs.may_join.Reads as may-join-reads
+use Rattle.absences.proofs.standing.may_join.Reads as may-join-reads
 use Rattle.absences.proofs.try_absence.Reads as try-absence-reads
 use Rattle.absences.proofs.+walk.{statement}
 use Rattle.absences.proofs.+walk.Tie.{close}
