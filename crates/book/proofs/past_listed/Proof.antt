@@ -3,7 +3,7 @@ use mathlib.Core.Path.{sym}
 use native.Mathlib.Nat.{lt-of-lt-of-le}
 use lib.Pow.{pow-mono}
 use borrow.Author.Tests.{lt-leb}
-use Rattle.book.proofs.Numbers.{shifted}
+use Rattle.sets.specs.Laws.Tests.{shifted}
 use Rattle.book.proofs.past_listed.Statement.{statement}
 use Rattle.book.proofs.past_listed.Tie as tie
 

@@ -1,14 +1,13 @@
--- The image of a set under a numbering: the set of the numbers of its members. With the ranks for a numbering it is a set of rows by rank; where
--- the numbering tells the rows apart, it loses nothing. Assumes nothing.
+-- The image of a set under a numbering: the set of the numbers of its members. Where the numbering tells them apart, it loses nothing. Assumes nothing.
 use mathlib.Core.Path.{_≡_, refl, sym, ap, _∙_}
 use Prim.Native.Nat.{ℕ, zero, suc, _+_, _-_, _^_, _≤_, _<_}
 use native.Mathlib.Decide.{decLt, ℕ-discrete}
 use native.Mathlib.Omega.{arith}
 use lib.Pow.{pow-pos, ones-lt}
 use lib.Count.{ones}
 use Rattle.sets.specs.Sets.{bit, Has, bit-le, bit-none, bit-high, bit-full, sub-eq, ones-none, with, with-lt, bit-with-same, bit-with-other, ones-with}
 use Rattle.sets.specs.Sums.{sumTo}
 use Rattle.sets.specs.Laws.Build.{ones-sum}
 
 -- m with x, where the digit is not 0
 unfoldable pub put : ℕ → ℕ → ℕ → ℕ
@@ -81,7 +80,7 @@ module _ (f : ℕ → ℕ) (n : ℕ) (inj : (u v : ℕ) → u < n → v < n → 
   pub image-ones : (A : ℕ) → A < 2 ^ n → ones (image f n A) ≡ ones A
   image-ones A h = image-sum f n A inj ∙ sym (ones-sum n A h)
 
-  -- a row is a member exactly if its number is in the image
+  -- a number is a member exactly if its own number is in the image
   pub image-bit : (A i : ℕ) → i < n → bit (image f n A) (f i) ≡ bit A i
   image-bit A i l = go (ℕ-discrete (bit A i) 1) (ℕ-discrete (bit (image f n A) (f i)) 1)
     where

@@ -1,5 +1,4 @@
--- A law of sets that only the sheet needs: sets that are pairwise disjoint and within n numbers have at most n members together. Their union has
--- as many. Assumes nothing.
+-- Sets that are pairwise disjoint and within n numbers have at most n members together: their union has as many. Assumes nothing.
 use mathlib.Core.Path.{_≡_, ap, _∙_}
 use mathlib.Core.Logic.{_≢_}
 use mathlib.Core.List.{List, [], _∷_}
