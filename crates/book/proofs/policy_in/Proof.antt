@@ -18,7 +18,7 @@ policy-from-requires : tie.Need-policy-from-requires
 policy-from-requires c κs =
     let p = c .before .before .before in
     let a = p .before .before .args in
-    let h = place-within 7 (a .book .now) (a .start) (a .i) (sym (p .place-of .ensures) ∙ c .before .at .given .1) in
+    let h = place-within _ (a .book .now) (a .start) (a .i) (sym (p .place-of .ensures) ∙ c .before .at .given .1) in
     omega arith
 
 enum-known-policy : tie.Need-enum-known-policy
