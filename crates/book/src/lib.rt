@@ -556,7 +556,8 @@ pub struct Book<'a> {
 
 // Reads the book once.
 pub fn view<'a>(bytes: &'a [u8]) -> Book<'a>
-    ensures { λ r. ⌜ (r .bytes ≡ bytes .entry) × (r .starts ≡ startsIn (now (bytes .entry))) × (now (bytes .exit) ≡ now (bytes .entry)) ⌝ }
+    ensures reply { λ r. ⌜ (r .bytes ≡ bytes .entry) × (r .starts ≡ startsIn (now (bytes .entry))) ⌝ }
+    ensures kept { λ _. ⌜ now (bytes .exit) ≡ now (bytes .entry) ⌝ }
 {
     Book {
         bytes,
@@ -566,21 +567,24 @@ pub fn view<'a>(bytes: &'a [u8]) -> Book<'a>
 
 // The staff number of a row.
 pub fn staff_of<'a>(book: Book<'a>, row: usize) -> Staff
-    ensures { λ s. ⌜ (s ≡ staffAt (now (book .entry .bytes)) (book .entry .starts .rows) row) × (book .exit .bytes ≡ book .entry .bytes) ⌝ }
+    ensures reply { λ r. ⌜ r ≡ staffAt (now (book .entry .bytes)) (book .entry .starts .rows) row ⌝ }
+    ensures kept { λ _. ⌜ (book .exit ≡ book .entry) × (now (book .exit .bytes) ≡ now (book .entry .bytes)) ⌝ }
 {
     staff_at(book.bytes, book.starts.rows, row)
 }
 
 // The holdings of a row.
 pub fn holdings_of<'a>(book: Book<'a>, row: usize) -> Holdings
-    ensures { λ h. ⌜ (h ≡ holdingsAt (now (book .entry .bytes)) (book .entry .starts .rows) row) × (book .exit .bytes ≡ book .entry .bytes) ⌝ }
+    ensures reply { λ r. ⌜ r ≡ holdingsAt (now (book .entry .bytes)) (book .entry .starts .rows) row ⌝ }
+    ensures kept { λ _. ⌜ (book .exit ≡ book .entry) × (now (book .exit .bytes) ≡ now (book .entry .bytes)) ⌝ }
 {
     holdings_at(book.bytes, book.starts.rows, row)
 }
 
 // The staff number of a row of these bytes, for a caller that keeps no view.
 pub fn staff_by_row(bytes: &[u8], row: usize) -> Staff
-    ensures { λ s. ⌜ (s ≡ staffAt (now (bytes .entry)) (startsIn (now (bytes .entry)) .rows) row) × (now (bytes .exit) ≡ now (bytes .entry)) ⌝ }
+    ensures reply { λ r. ⌜ r ≡ staffAt (now (bytes .entry)) (startsIn (now (bytes .entry)) .rows) row ⌝ }
+    ensures kept { λ _. ⌜ now (bytes .exit) ≡ now (bytes .entry) ⌝ }
 {
     staff_of(view(bytes), row)
 }
