@@ -1,6 +1,8 @@
 -- No 64-bit set has a bit at 64 or past it; below, the shift leaves nothing exactly if the set is below 2 ^ rows. Assumes nothing.
 use mathlib.Core.Path.{sym}
+use Prim.Native.Nat.{_≤_}
 use native.Mathlib.Nat.{lt-of-lt-of-le}
+use native.Mathlib.Omega.{arith}
 use lib.Pow.{pow-mono}
 use borrow.Author.Needs.{needs}
 use borrow.Author.Tests.{lt-leb}
@@ -9,7 +11,9 @@ use Rattle.roster.proofs.past_rows.Statement.{statement}
 use Rattle.roster.proofs.past_rows.Tie as tie
 
 returns : tie.Need-returns
-returns c = sym (lt-leb _ _ (lt-of-lt-of-le (c .before .fits .set .fits) (pow-mono (c .if1 .taken))))
+returns c =
+    let many : 64 ≤ c .before .args .rows = omega (arith, c .if1 .taken) in
+    sym (lt-leb _ _ (lt-of-lt-of-le (c .before .fits .set .fits) (pow-mono many)))
 
 shr-result : tie.Need-shr-result
 shr-result c = search needs
