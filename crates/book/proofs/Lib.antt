@@ -1,3 +1,4 @@
 pub mod Numbers
 pub mod Looks
 pub mod Places
+pub mod Walks

@@ -1,16 +1,13 @@
--- Laws of the numbers that stand in a book: past the end they are 0, a number of four bytes is two of two, and a shift tells whether a set
--- has a bit past a place. Assumes nothing.
+-- Laws of the numbers that stand in a book: past the end they are 0, and a number of four bytes is two of two. Assumes nothing.
 use mathlib.Core.Path.{_≡_, refl}
-use mathlib.Core.Bool.{not}
 use mathlib.Core.List.{List}
-use Prim.Native.Nat.{ℕ, zero, suc, _+_, _-_, _*_, _/_, _^_, _≤_, _<_}
-use native.Mathlib.Nat.{add-assoc, lt-of-not-le, div-eq-of-lt}
+use Prim.Native.Nat.{ℕ, zero, suc, _+_, _-_, _*_, _≤_, _<_}
+use native.Mathlib.Nat.{add-assoc, lt-of-not-le}
 use native.Mathlib.Decide.{decLe}
 use native.Mathlib.Omega.{arith}
-use lib.Dec.{eqb, leb, ltb}
+use lib.Dec.{ltb}
 use lib.ListN.{length, getD, List·getD-eq-default}
-use borrow.Author.Tests.{le-leb, lt-leb, le-ltb, lt-ltb, eq-eqb, ne-eqb}
-use Rattle.sets.specs.Sets.{shifted-out}
+use borrow.Author.Tests.{le-ltb, lt-ltb}
 use Rattle.book.specs.Reading.{number}
 
 -- past the end there are zeros
@@ -44,16 +41,3 @@ cut-by len at wide h = go (decLe wide (len - at))
         let l : len - at < wide = lt-of-not-le n in
         let m : len < at + wide = omega arith in
         simp (lt-ltb _ _ l, lt-ltb _ _ m)
-
--- nothing is left of a shift by k exactly where the set is below 2 ^ k
-pub shifted : (k m : ℕ) → not (eqb (m / 2 ^ k) 0) ≡ leb (2 ^ k) m
-shifted k m = go (decLe (2 ^ k) m)
-  where
-    some : 2 ^ k ≤ m → m / 2 ^ k ≡ 0 → ⊥
-    some l e = omega (arith, shifted-out k m e)
-
-    go : Dec (2 ^ k ≤ m) → not (eqb (m / 2 ^ k) 0) ≡ leb (2 ^ k) m
-    go (yes l) = simp (ne-eqb _ _ (some l), le-leb _ _ l)
-    go (no n) =
-        let l : m < 2 ^ k = lt-of-not-le n in
-        simp (eq-eqb _ _ (div-eq-of-lt l), lt-leb _ _ l)

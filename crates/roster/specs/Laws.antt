@@ -1,5 +1,4 @@
 pub mod Rulings
-pub mod Image
 pub mod Rank
 pub mod Order
 pub mod Lists

@@ -9,3 +9,5 @@ pub mod Sums
 pub mod Tests
 pub mod Build
 pub mod Members
+pub mod Image
+pub mod Unions

@@ -1,8 +1,9 @@
 -- The number that stands four bytes past the row's place. Assumes nothing.
 use borrow.Author.Needs.{needs}
-use mathlib.Core.Path.{sym, ap, _∙_}
+use mathlib.Core.Path.{_≡_, sym, ap, _∙_}
+use Prim.Native.Nat.{_+_}
 use native.Mathlib.Omega.{arith}
-use Rattle.book.specs.Reading.{fieldsAt}
+use Rattle.book.specs.Reading.{number, fieldsAt}
 use Rattle.book.specs.Parts.{holdingsFrom}
 use Rattle.book.specs.declared.Holdings.the-variants as holdings
 use Rattle.book.proofs.Looks.{both}
@@ -35,7 +36,8 @@ returns c =
     both (
     let p = c .before .before .before .before in
     let a = p .before .before .args in
-    ap holdings.Held (c .four .ensures)
+    let read : c .four .result ≡ number 4 (a .book .now) (c .before .before .at .given .0 .0 + 4) = c .four .ensures in
+    ap holdings.Held read
     ∙ ap (holdingsFrom (a .book .now)) (sym (c .before .before .at .given .1) ∙ p .place-of .ensures))
 
 returns-2 : tie.Need-returns-2

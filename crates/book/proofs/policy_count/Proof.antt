@@ -1,6 +1,6 @@
 -- The count of the section that starts where the reader says. Assumes nothing.
 use borrow.Author.Needs.{needs}
-use mathlib.Core.Path.{ap, _∙_}
+use mathlib.Core.Path.{_≡_, ap, _∙_}
 use Rattle.book.specs.Reading.{countAt}
 use Rattle.book.specs.Parts.{policyCount}
 use Rattle.book.specs.declared.Starts.{Starts}
@@ -19,7 +19,8 @@ unfolding policyCount
 returns c =
     both (
     let a = c .before .before .before .args in
-    c .count-at .ensures ∙ ap (λ (s : Starts). countAt (a .book .now) (s .policies)) (c .before .starts-in .ensures .0))
+    let counted : c .count-at .result ≡ countAt (a .book .now) (c .before .starts-in .result .policies) = c .count-at .ensures in
+    counted ∙ ap (λ (s : Starts). countAt (a .book .now) (s .policies)) (c .before .starts-in .ensures .0))
 
 pub policy-count-spec : {M : Type 1} → statement M
 policy-count-spec = tie.close (tie.spec starts-in-requires count-at-requires returns)

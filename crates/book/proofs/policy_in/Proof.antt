@@ -1,8 +1,9 @@
 -- What the fields at the policy's place make. Assumes nothing.
 use borrow.Author.Needs.{needs}
-use mathlib.Core.Path.{sym, ap, _∙_}
+use mathlib.Core.Path.{_≡_, sym, ap, _∙_}
 use native.Mathlib.Omega.{arith}
-use Rattle.book.specs.Parts.{listedBy, policyFrom}
+use Rattle.book.specs.Reading.{policies, width}
+use Rattle.book.specs.Parts.{placeOf, listedBy, policyFrom}
 use Rattle.book.proofs.Looks.{both, made-at}
 use Rattle.book.specs.Laws.Places.{place-within}
 use Rattle.book.proofs.policy_in.Statement.{statement}
@@ -14,11 +15,15 @@ place-of-requires c κs = search needs
 enum-known-at : tie.Need-enum-known-at
 enum-known-at c = search needs
 
+-- where the policy stands, by the width of policies
+stood : (c : tie.After-place-of) → let a = c .before .before .args in c .place-of .result ≡ placeOf (width policies) (a .book .now) (a .start) (a .i)
+stood c = c .place-of .ensures
+
 policy-from-requires : tie.Need-policy-from-requires
 policy-from-requires c κs =
     let p = c .before .before .before in
     let a = p .before .before .args in
-    let h = place-within 7 (a .book .now) (a .start) (a .i) (sym (p .place-of .ensures) ∙ c .before .at .given .1) in
+    let h = place-within _ (a .book .now) (a .start) (a .i) (sym (stood p) ∙ c .before .at .given .1) in
     omega arith
 
 enum-known-policy : tie.Need-enum-known-policy
@@ -37,7 +42,7 @@ returns c =
     let p = m .before .before .before .before in
     let a = p .before .before .args in
     ap listedBy (sym (c .before .policy .given .1) ∙ m .policy-from .ensures ∙ made-at (a .book .now) _)
-    ∙ ap (policyFrom (a .book .now)) (sym (m .before .before .at .given .1) ∙ p .place-of .ensures))
+    ∙ ap (policyFrom (a .book .now)) (sym (m .before .before .at .given .1) ∙ stood p))
 
 returns-2 : tie.Need-returns-2
 returns-2 c =
@@ -46,14 +51,14 @@ returns-2 c =
     let p = m .before .before .before .before in
     let a = p .before .before .args in
     ap listedBy (sym (c .enum-told .given .1) ∙ m .policy-from .ensures ∙ made-at (a .book .now) _)
-    ∙ ap (policyFrom (a .book .now)) (sym (m .before .before .at .given .1) ∙ p .place-of .ensures))
+    ∙ ap (policyFrom (a .book .now)) (sym (m .before .before .at .given .1) ∙ stood p))
 
 returns-3 : tie.Need-returns-3
 returns-3 c =
     both (
     let p = c .before .before in
     let a = p .before .before .args in
-    ap (policyFrom (a .book .now)) (sym (c .enum-told2 .given .1) ∙ p .place-of .ensures))
+    ap (policyFrom (a .book .now)) (sym (c .enum-told2 .given .1) ∙ stood p))
 
 pub policy-in-spec : {M : Type 1} → statement M
 policy-in-spec =

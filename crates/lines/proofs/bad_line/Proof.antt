@@ -20,23 +20,28 @@ parts : (fault place : ℕ) → badLine fault place ≡ bad ++ fromNumber fault 
 unfolding badLine marked joined
 parts fault place = simp (append-assoc, append-nil)
 
--- the line is written up to this rest
-abbrev UpTo : (s : tie.Start) (rest new : List ℕ) (next : ℕ) → Type 0
-UpTo s rest new next = SoFar (badLine (s .args .fault) (s .args .place)) rest (s .args .out .now) 0 new next
+abbrev theLine : tie.Start → List ℕ
+theLine s = badLine (s .args .fault) (s .args .place)
 
-up-to-word : (s : tie.Start) → UpTo s (bad ++ fromNumber (s .args .fault) (s .args .place)) (s .args .out .now) 0
+up-to-word : (s : tie.Start) → SoFar (theLine s) (bad ++ fromNumber (s .args .fault) (s .args .place)) (s .args .out .now) 0 (s .args .out .now) 0
 up-to-word s = with-rest (parts (s .args .fault) (s .args .place)) (begin _ _ _)
 
-up-to-number : (c : tie.After-word) → let s = c .before .before .before .before in UpTo s (fromNumber (s .args .fault) (s .args .place)) (c .word .last .0) (c .word .result)
+up-to-number : (c : tie.After-word)
+    → let s = c .before .before .before .before in
+    SoFar (theLine s) (fromNumber (s .args .fault) (s .args .place)) (s .args .out .now) 0 (c .word .last .0) (c .word .result)
 up-to-number c = step bad (up-to-word (c .before .before .before .before)) (c .word .ensures)
 
-up-to-place : (c : tie.After-number) → let s = c .before .before .before .before .before .before .before .before .before in UpTo s (fromPlace (s .args .place)) (c .number .last .0) (c .number .result)
+up-to-place : (c : tie.After-number)
+    → let s = c .before .before .before .before .before .before .before .before .before in
+    SoFar (theLine s) (fromPlace (s .args .place)) (s .args .out .now) 0 (c .number .last .0) (c .number .result)
 up-to-place c =
     let s = c .before .before .before .before .before .before .before .before .before in
     step (space ∷ decimal (s .args .fault)) (up-to-number (c .before .before .before .before .before))
     (read-as (ap (λ (n : ℕ). space ∷ decimal n) (c .before .wide .ensures)) (c .number .ensures))
 
-up-to-newline : (c : tie.After-number2) → let s = c .before .before .before .before .before .before .before .before .before .before .before .before .before in UpTo s (newline ∷ []) (c .number2 .last .0) (c .number2 .result)
+up-to-newline : (c : tie.After-number2)
+    → let s = c .before .before .before .before .before .before .before .before .before .before .before .before .before in
+    SoFar (theLine s) (newline ∷ []) (s .args .out .now) 0 (c .number2 .last .0) (c .number2 .result)
 up-to-newline c =
     let s = c .before .before .before .before .before .before .before .before .before .before .before .before .before in
     step (space ∷ decimal (s .args .place)) (up-to-place (c .before .before .before .before)) (c .number2 .ensures)

@@ -28,27 +28,32 @@ parts : (staff : List ℕ) (index : ℕ) (reply : Reply) → lineOf staff index 
 unfolding lineOf marked joined
 parts staff index reply = simp (append-assoc, append-nil)
 
--- the line is written up to this rest
-abbrev UpTo : (s : tie.Start) (rest new : List ℕ) (next : ℕ) → Type 0
-UpTo s rest new next = SoFar (lineOf (s .args .staff .now) (s .args .index) (s .args .reply)) rest (s .args .out .now) (s .args .at) new next
+abbrev theLine : tie.Start → List ℕ
+theLine s = lineOf (s .args .staff .now) (s .args .index) (s .args .reply)
 
-up-to-index : (s : tie.Start) → UpTo s (decimal (s .args .index) ++ fromSpace (s .args .staff .now) (s .args .reply)) (s .args .out .now) (s .args .at)
+up-to-index : (s : tie.Start) → SoFar (theLine s) (decimal (s .args .index) ++ fromSpace (s .args .staff .now) (s .args .reply)) (s .args .out .now) (s .args .at) (s .args .out .now) (s .args .at)
 up-to-index s = with-rest (parts (s .args .staff .now) (s .args .index) (s .args .reply)) (begin _ _ _)
 
-up-to-space : (c : tie.After-decimal) → let s = c .before .before .before in UpTo s (fromSpace (s .args .staff .now) (s .args .reply)) (c .decimal .last .0) (c .decimal .result)
+up-to-space : (c : tie.After-decimal)
+    → let s = c .before .before .before in
+    SoFar (theLine s) (fromSpace (s .args .staff .now) (s .args .reply)) (s .args .out .now) (s .args .at) (c .decimal .last .0) (c .decimal .result)
 up-to-space c = let s = c .before .before .before in step (decimal (s .args .index)) (up-to-index s) (c .decimal .ensures)
 
-up-to-verdict : (c : tie.After-put) → let s = c .before .before .before .before .before .before .before in UpTo s (fromVerdict (s .args .staff .now) (s .args .reply)) (c .put .last .0) (c .put .result)
+up-to-verdict : (c : tie.After-put)
+    → let s = c .before .before .before .before .before .before .before in
+    SoFar (theLine s) (fromVerdict (s .args .staff .now) (s .args .reply)) (s .args .out .now) (s .args .at) (c .put .last .0) (c .put .result)
 up-to-verdict c = step (space ∷ []) (up-to-space (c .before .before .before .before)) (c .put .ensures)
 
-up-to-units : (c : tie.After-verdict-word) → let s = c .before .before .before .before .before .before .before .before .before .before .before in UpTo s (fromUnits (s .args .staff .now) (s .args .reply)) (c .verdict-word .last .0) (c .verdict-word .result)
+up-to-units : (c : tie.After-verdict-word)
+    → let s = c .before .before .before .before .before .before .before .before .before .before .before in
+    SoFar (theLine s) (fromUnits (s .args .staff .now) (s .args .reply)) (s .args .out .now) (s .args .at) (c .verdict-word .last .0) (c .verdict-word .result)
 up-to-units c =
     let s = c .before .before .before .before .before .before .before .before .before .before .before in
     step (verdictWord (s .args .reply .verdict)) (up-to-verdict (c .before .before .before .before)) (c .verdict-word .ensures)
 
 up-to-sets : (c : tie.After-number)
     → let s = c .before .before .before .before .before .before .before .before .before .before .before .before .before .before .before .before in
-    UpTo s (fromSets (s .args .staff .now) (s .args .reply)) (c .number .last .0) (c .number .result)
+    SoFar (theLine s) (fromSets (s .args .staff .now) (s .args .reply)) (s .args .out .now) (s .args .at) (c .number .last .0) (c .number .result)
 up-to-sets c =
     let s = c .before .before .before .before .before .before .before .before .before .before .before .before .before .before .before .before in
     step (space ∷ decimal (s .args .reply .units)) (up-to-units (c .before .before .before .before .before))
@@ -56,7 +61,7 @@ up-to-sets c =
 
 up-to-newline : (c : tie.After-sets-field)
     → let s = c .before .before .before .before .before .before .before .before .before .before .before .before .before .before .before .before .before .before .before .before in
-    UpTo s (newline ∷ []) (c .sets-field .last .0) (c .sets-field .result)
+    SoFar (theLine s) (newline ∷ []) (s .args .out .now) (s .args .at) (c .sets-field .last .0) (c .sets-field .result)
 up-to-newline c =
     let s = c .before .before .before .before .before .before .before .before .before .before .before .before .before .before .before .before .before .before .before .before in
     step (space ∷ setsText (s .args .staff .now) (s .args .reply) (s .args .reply .verdict)) (up-to-sets (c .before .before .before .before)) (c .sets-field .ensures)

@@ -2,6 +2,8 @@
 use mathlib.Core.Path.{_≡_, sym, ap}
 use Rattle.roster.specs.declared.Verdict.{Verdict}
 use Rattle.roster.specs.declared.Verdict.the-variants.{Yes, No}
+use native.Mathlib.Omega.{arith}
+use Rattle.lines.specs.Text.{Room}
 use Rattle.lines.specs.Lines.{yes, no, verdictWord}
 use Rattle.lines.proofs.Appends.{read-as, room-as}
 use Rattle.lines.proofs.Verdicts.{open-word}
@@ -26,7 +28,8 @@ slice-aggregate-word c = search needs
 word-requires : tie.Need-word-requires
 word-requires c κs =
     let s = c .before .before .before .before .before in
-    room-as (s .args .out .now) (s .args .at) (is-yes (c .before .before .enum-told .given .1)) (s .pre)
+    let room : Room yes (s .args .out .now) (s .args .at) = room-as (s .args .out .now) (s .args .at) (is-yes (c .before .before .enum-told .given .1)) (s .pre) in
+    omega (arith, room)
 
 enum-told-2 : tie.Need-enum-told-2
 enum-told-2 c = search needs
@@ -37,7 +40,8 @@ slice-aggregate-word-2 c = search needs
 word-requires-2 : tie.Need-word-requires-2
 word-requires-2 c κs =
     let s = c .before .before .before .before .before in
-    room-as (s .args .out .now) (s .args .at) (is-no (c .before .before .enum-told2 .given .1)) (s .pre)
+    let room : Room no (s .args .out .now) (s .args .at) = room-as (s .args .out .now) (s .args .at) (is-no (c .before .before .enum-told2 .given .1)) (s .pre) in
+    omega (arith, room)
 
 slice-aggregate-word-3 : tie.Need-slice-aggregate-word-3
 slice-aggregate-word-3 c = search needs

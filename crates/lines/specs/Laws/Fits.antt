@@ -54,7 +54,7 @@ use Rattle.lines.specs.Text.{comma, slash, decimal, marked, joined}
 use Rattle.lines.specs.Lines.{verdictWord, names, setText, filled, crewsText, setsText, lineOf, badLine}
 use Rattle.lines.specs.Sheet.{allowance, way, staffOr0, staffOf, replyTo, lineBy, linesFrom, sheetBy, sheetOf, longest}
 use Rattle.lines.specs.Laws.Decimal.{decimal-length}
-use Rattle.lines.specs.Laws.More.{onesOf, Disjoint, disjoint-few}
+use Rattle.sets.specs.Laws.Unions.{onesOf, Disjoint, disjoint-few}
 
 -- ---- how long lists are written
 

@@ -34,21 +34,24 @@ returns : tie.Need-returns
 returns c =
     let p = c .before .before .before in
     let a = p .before .args in
-    by-policy (a .rows) (a .task) (a .crews) (a .size) (a .absent) (sym (p .policy-ruling .ensures) ∙ c .before .refusal .given .1)
+    let ruled : policyRuling (a .rows) (a .task) 0 (a .crews) (a .size) ≡ p .policy-ruling .result = sym (p .policy-ruling .ensures) in
+    by-policy (a .rows) (a .task) (a .crews) (a .size) (a .absent) (ruled ∙ c .before .refusal .given .1)
 
 returns-2 : tie.Need-returns-2
 returns-2 c =
     let p = c .before .before .before .before in
     let a = p .before .args in
+    let ruled : policyRuling (a .rows) (a .task) 0 (a .crews) (a .size) ≡ p .policy-ruling .result = sym (p .policy-ruling .ensures) in
     ap (λ (b : Bool). refusedIf b Absence Admitted) (sym (c .if1 .taken) ∙ c .before .past-rows .ensures)
-    ∙ by-policy (a .rows) (a .task) (a .crews) (a .size) (a .absent) (sym (p .policy-ruling .ensures) ∙ c .before .before .enum-told .given .1)
+    ∙ by-policy (a .rows) (a .task) (a .crews) (a .size) (a .absent) (ruled ∙ c .before .before .enum-told .given .1)
 
 returns-3 : tie.Need-returns-3
 returns-3 c =
     let p = c .before .before .before .before in
     let a = p .before .args in
+    let ruled : policyRuling (a .rows) (a .task) 0 (a .crews) (a .size) ≡ p .policy-ruling .result = sym (p .policy-ruling .ensures) in
     ap (λ (b : Bool). refusedIf b Absence Admitted) (sym (c .if1 .left) ∙ c .before .past-rows .ensures)
-    ∙ by-policy (a .rows) (a .task) (a .crews) (a .size) (a .absent) (sym (p .policy-ruling .ensures) ∙ c .before .before .enum-told .given .1)
+    ∙ by-policy (a .rows) (a .task) (a .crews) (a .size) (a .absent) (ruled ∙ c .before .before .enum-told .given .1)
 
 pub named-ruling-spec : {M : Type 1} → statement M
 named-ruling-spec =

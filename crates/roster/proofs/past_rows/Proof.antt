@@ -1,30 +1,19 @@
 -- No 64-bit set has a bit at 64 or past it; below, the shift leaves nothing exactly if the set is below 2 ^ rows. Assumes nothing.
-use mathlib.Core.Path.{_≡_, sym}
-use mathlib.Core.Bool.{not}
-use Prim.Native.Nat.{ℕ, _/_, _^_, _≤_, _<_}
-use native.Mathlib.Nat.{lt-of-lt-of-le, lt-of-not-le, div-eq-of-lt}
-use native.Mathlib.Decide.{decLe}
+use mathlib.Core.Path.{sym}
+use Prim.Native.Nat.{_≤_}
+use native.Mathlib.Nat.{lt-of-lt-of-le}
 use native.Mathlib.Omega.{arith}
-use lib.Dec.{eqb, leb}
 use lib.Pow.{pow-mono}
 use borrow.Author.Needs.{needs}
-use borrow.Author.Tests.{le-leb, lt-leb, eq-eqb, ne-eqb}
-use Rattle.sets.specs.Sets.{shifted-out}
+use borrow.Author.Tests.{lt-leb}
+use Rattle.sets.specs.Laws.Tests.{shifted}
 use Rattle.roster.proofs.past_rows.Statement.{statement}
 use Rattle.roster.proofs.past_rows.Tie as tie
 
--- nothing is left of a shift by k exactly where the set is below 2 ^ k
-shifted : (k m : ℕ) → not (eqb (m / 2 ^ k) 0) ≡ leb (2 ^ k) m
-shifted k m = go (decLe (2 ^ k) m)
-  where
-    go : Dec (2 ^ k ≤ m) → not (eqb (m / 2 ^ k) 0) ≡ leb (2 ^ k) m
-    go (yes l) = simp (ne-eqb (m / 2 ^ k) 0 (λ e. omega (arith, shifted-out k m e)), le-leb _ _ l)
-    go (no n) =
-        let l : m < 2 ^ k = lt-of-not-le n in
-        simp (eq-eqb _ _ (div-eq-of-lt l), lt-leb _ _ l)
-
 returns : tie.Need-returns
-returns c = sym (lt-leb _ _ (lt-of-lt-of-le (c .before .fits .set .fits) (pow-mono (c .if1 .taken))))
+returns c =
+    let many : 64 ≤ c .before .args .rows = omega (arith, c .if1 .taken) in
+    sym (lt-leb _ _ (lt-of-lt-of-le (c .before .fits .set .fits) (pow-mono many)))
 
 shr-result : tie.Need-shr-result
 shr-result c = search needs

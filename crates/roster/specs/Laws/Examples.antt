@@ -10,7 +10,7 @@ use Rattle.sets.specs.Sums.{sumTo, toN}
 use Rattle.roster.specs.declared.Table.{Table}
 use Rattle.roster.specs.Meaning.{rank, ahead}
 use Rattle.roster.specs.Laws.Rank.{outweighsb}
-use Rattle.roster.specs.Laws.Image.{image, put}
+use Rattle.sets.specs.Laws.Image.{image, put}
 use Rattle.roster.specs.Laws.Lists.{ranks}
 
 abbrev H : Table

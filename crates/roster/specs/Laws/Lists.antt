@@ -14,7 +14,7 @@ use Rattle.sets.specs.Members.{cons?, members}
 use Rattle.sets.specs.Laws.Members.{Ascends, members-ascend, has-of-mem, mem-of-has, length-members}
 use Rattle.roster.specs.declared.Table.{Table}
 use Rattle.roster.specs.Meaning.{rank, Lex, Earlier}
-use Rattle.roster.specs.Laws.Image.{image, image-has, has-image, image-lt, image-ones, image-bit}
+use Rattle.sets.specs.Laws.Image.{image, image-has, has-image, image-lt, image-ones, image-bit}
 use Rattle.roster.specs.Laws.Rank.{rank-inj, rank-below}
 
 -- the ranks of A's rows, in ascending order

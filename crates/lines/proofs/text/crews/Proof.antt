@@ -21,7 +21,11 @@ abbrev μ-loop : tie.MeasureT-loop
 μ-loop out₀ at staff mark sets next₀ before₀ j₀ out next before j = length sets - j
 
 loop-holds : tie.Need-loop-holds Inv-loop μ-loop
-loop-holds c = begin _ _ _
+loop-holds c =
+    let a = c .before .before .args in
+    let first : SoFar (marked (a .mark) slash (map (setText (a .staff .now)) (filled (a .sets .now)))) (crewsFrom (a .staff .now) (a .sets .now) (a .mark) 0) (a .out .now) (a .at) (a .out .now) (a .at) =
+    begin _ _ _ in
+    first
 
 mul-if1 : tie.Need-mul-if1 Inv-loop μ-loop
 mul-if1 c = search needs
