@@ -14,7 +14,8 @@ use Rattle.crews.specs.declared.Ending.{Ending}
 use Rattle.crews.specs.declared.Ending.the-variants as ending
 use Rattle.crews.specs.declared.Filled.{Filled}
 use Rattle.crews.specs.Filling.{Outcome, plainly, holdersOf, filling}
-use Rattle.crews.specs.Filled.{tabulate, at, filledOf, foundFrom}
+use Rattle.sets.specs.Arrays.{tabulate, at}
+use Rattle.crews.specs.Filled.{filledOf, foundFrom}
 use Rattle.crews.specs.Laws.Arrays.{lent-filling}
 use Rattle.crews.specs.Laws.Steps as steps
 use Rattle.absences.specs.declared.Search.{Search}

@@ -12,7 +12,7 @@ use Rattle.sets.specs.Laws.Sums.{either}
 use Rattle.roster.specs.declared.Table.{Table}
 use Rattle.roster.specs.Limits.{rowLimit}
 use Rattle.roster.specs.Laws.Rank.{outweighsb}
-use Rattle.crews.specs.Filled.{at}
+use Rattle.sets.specs.Arrays.{at}
 use Rattle.absences.specs.declared.Search.{Search}
 use Rattle.absences.specs.declared.Course.the-variants.{Open}
 use Rattle.absences.specs.declared.Prefix.{Prefix}

@@ -5,6 +5,7 @@ use mathlib.Core.List.{List, [], _∷_}
 use Prim.Native.Nat.{ℕ, zero, suc, _+_, _*_}
 use lib.Dec.{leb, ltb}
 use lib.ListN.{length}
+use Rattle.sets.specs.Arrays.{tabulate}
 use Rattle.roster.specs.Limits.{rowLimit}
 use Rattle.roster.specs.Refusals.{madeOf}
 use Rattle.roster.specs.declared.Made.{Made}
@@ -85,15 +86,10 @@ abbrev pub heldOr0 : Holdings → ℕ
 heldOr0 (holdings.Held held) = held
 heldOr0 holdings.NoSuchRow = 0
 
--- what f is at each number from i on, n of them
-unfoldable pub upFrom : {A : Type 0} → ℕ → ℕ → (ℕ → A) → List A
-upFrom i zero f = []
-upFrom i (suc n) f = f i ∷ upFrom (suc i) n f
-
 -- "The table is one value that carries all 64 holdings and its row count"
 unfoldable pub tableOf : List ℕ → Table
 tableOf book = record {
-  holdings = upFrom 0 rowLimit (λ row. heldOr0 (holdingsAt book (startsIn book .rows) row));
+  holdings = tabulate rowLimit (λ row. heldOr0 (holdingsAt book (startsIn book .rows) row));
   rows = countAt book (startsIn book .rows);
 }
 

@@ -5,12 +5,13 @@ use mathlib.Core.Option.{Option, some, none}
 use mathlib.Core.List.{List, [], _∷_, _++_}
 use Prim.Native.Nat.{ℕ, _<_}
 use lib.ListN.{length, getD, getElem?}
+use Rattle.sets.specs.Arrays.{tabulate}
 use Rattle.roster.specs.Limits.{rowLimit}
 use Rattle.roster.specs.declared.Policy.{Policy}
 use Rattle.roster.specs.declared.Table.{Table}
 use Rattle.book.specs.Layout.{Contents, Row, Each, LayoutOf, section, codeWidths, codeFields, rowWidths, rowFields}
 use Rattle.book.specs.Reading.{Found, looks}
-use Rattle.book.specs.Parts.{startsIn, staffAt, holdingsAt, heldOr0, upFrom, tableOf, policyCount, policyAt}
+use Rattle.book.specs.Parts.{startsIn, staffAt, holdingsAt, heldOr0, tableOf, policyCount, policyAt}
 use Rattle.book.specs.declared.Fault.{Fault}
 use Rattle.book.specs.declared.Look.the-variants.{Sound, Faulty}
 use Rattle.book.specs.declared.Reading.{Reading}
@@ -69,7 +70,7 @@ policyBy (some p) = listed.Policy p
 -- the table of these values: a row's holdings, and 0 past the last
 abbrev pub tableFor : Contents → Table
 tableFor v = record {
-  holdings = upFrom 0 rowLimit (λ row. heldOr0 (holdingsBy (getElem? (v .rows) row)));
+  holdings = tabulate rowLimit (λ row. heldOr0 (holdingsBy (getElem? (v .rows) row)));
   rows = length (v .rows);
 }
 

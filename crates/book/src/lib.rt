@@ -14,10 +14,11 @@ use sections::policy_from;
 use sections::section_step;
 use sections::width;
 ghost use mathlib.Core.Path.{_≡_};
+ghost use Rattle.sets.specs.Arrays.{tabulate};
 ghost use Rattle.roster.specs.Limits.{rowLimit};
 ghost use Rattle.book.specs.Faults.{faultNumber};
 ghost use Rattle.book.specs.Reading.{readOf};
-ghost use Rattle.book.specs.Parts.{startsIn, placeOf, staffAt, holdingsAt, heldOr0, upFrom, tableOf, policyCount, policyIn, policyAt};
+ghost use Rattle.book.specs.Parts.{startsIn, placeOf, staffAt, holdingsAt, heldOr0, tableOf, policyCount, policyIn, policyAt};
 ghost use Rattle.book.specs.Steps.{widthIn, readPolicies, readRows};
 
 // Permissions of a book at most; a row's holdings have a bit for each.
@@ -235,7 +236,7 @@ fn held_at(book: &[u8], start: usize, row: usize) -> u32
 
 // The holdings of all rows.
 fn all_held(book: &[u8], start: usize) -> [u32; Policy::ROWS]
-    ensures { λ r. ⌜ r ≡ upFrom 0 rowLimit (λ row. heldOr0 (holdingsAt (now (book .entry)) start row)) ⌝ }
+    ensures { λ r. ⌜ r ≡ tabulate rowLimit (λ row. heldOr0 (holdingsAt (now (book .entry)) start row)) ⌝ }
 {
     let mut held = [0u32; Policy::ROWS];
     let mut row = 0;

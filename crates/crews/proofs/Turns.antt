@@ -21,7 +21,8 @@ use Rattle.crews.specs.declared.Filling.{Filling}
 use Rattle.crews.specs.declared.Ending.the-variants.{Exhausted, Undecided}
 use Rattle.crews.specs.declared.Filled.{Filled}
 use Rattle.crews.specs.Filling.{Work, Outcome, missingOf, placeOf, closeOf, placedOf, tryEach, search, plainly}
-use Rattle.crews.specs.Filled.{at, filledOf, closedWhere, stuck, Ready}
+use Rattle.sets.specs.Arrays.{at}
+use Rattle.crews.specs.Filled.{filledOf, closedWhere, stuck, Ready}
 use Rattle.crews.specs.Laws.Search.{search-full}
 use Rattle.crews.specs.Laws.Steps as step
 

@@ -1,16 +1,14 @@
 -- 01's examples of filling crews, by running the definition.
 use mathlib.Core.Path.{_≡_, refl}
-use mathlib.Core.Bool.{Bool, true, false}
-use mathlib.Core.List.{List, [], _∷_}
-use Prim.Native.Nat.{ℕ}
-use lib.Bits.{bitAnd, bitOr, bitXor}
+use mathlib.Core.Bool.{true, false}
+use mathlib.Core.List.{[], _∷_}
 use lib.Count.{ones, onesIn, trailingZeros}
 use Rattle.sets.specs.Sets.{bit}
 use Rattle.sets.specs.Sums.{sumTo, toN}
 use Rattle.sets.specs.Members.{cons?, members, filter, hasb, setOf}
 use Rattle.roster.specs.declared.Table.{Table}
 use Rattle.roster.specs.Replies.{noCrews}
-use Rattle.crews.specs.Filling.{Outcome, placeOf, closeOf, placedOf, candidates, tryEach, search, filling}
+use Rattle.crews.specs.Filling.{placeOf, closeOf, placedOf, candidates, tryEach, search, filling}
 
 -- H of 01
 abbrev pub tableH : Table

@@ -1,11 +1,10 @@
 -- What the functions of this crate answer, in the terms of the definition of filling: the holdings and the holders as the arrays that are
 -- lent, the allowance, and the reply. Nothing here is proved: these are definitions, and they run.
 use mathlib.Core.Bool.{Bool, true, false}
-use mathlib.Core.List.{List, [], _∷_}
-use Prim.Native.Nat.{ℕ, zero, suc, _+_, _≤_}
+use mathlib.Core.List.{List}
+use Prim.Native.Nat.{ℕ, _+_, _≤_}
 use lib.Count.{ones}
 use lib.Dec.{eqb, leb}
-use lib.ListN.{getD}
 use Rattle.roster.specs.declared.Verdict.{Verdict}
 use Rattle.roster.specs.declared.Verdict.the-variants as verdict
 use Rattle.roster.specs.declared.Reply.{Reply}
@@ -16,15 +15,6 @@ use Rattle.crews.specs.declared.Ending.{Ending}
 use Rattle.crews.specs.declared.Ending.the-variants.{Complete, Exhausted, Undecided}
 use Rattle.crews.specs.declared.Filled.{Filled}
 use Rattle.crews.specs.Filling.{Work, Outcome, nothing, missingOf, closeOf, searchFrom}
-
--- f 0, .., f (n - 1)
-unfoldable pub tabulate : ℕ → (ℕ → ℕ) → List ℕ
-tabulate zero f = []
-tabulate (suc n) f = f 0 ∷ tabulate n (λ i. f (suc i))
-
--- the number at i of an array, and 0 past its end
-abbrev pub at : List ℕ → ℕ → ℕ
-at l i = getD l i 0
 
 -- "Filling ends at the first complete crew list, or when all are exhausted."
 abbrev pub endingOf : Bool → Ending

@@ -1,6 +1,5 @@
 -- The question for one named absence: what it is allowed to reply. Nothing here is proved: these are definitions.
 use mathlib.Core.Path.{_≡_}
-use mathlib.Core.Bool.{Bool, true, false}
 use mathlib.Core.List.{List}
 use Prim.Native.Nat.{ℕ, _≤_, _<_}
 use Rattle.roster.specs.declared.Table.{Table}

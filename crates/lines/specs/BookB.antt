@@ -8,7 +8,7 @@ use Rattle.sets.specs.Members.{cons?, members, filter, hasb, setOf}
 use Rattle.roster.specs.Meaning.{ahead, rank}
 use Rattle.roster.specs.Refusals.{policyRuling}
 use Rattle.crews.specs.Filling.{placeOf, closeOf, placedOf, candidates, tryEach, search}
-use Rattle.crews.specs.Filled.{tabulate}
+use Rattle.sets.specs.Arrays.{tabulate}
 use Rattle.absences.specs.Tried.{outweighsb, rowFrom, joins, listed, sizesFrom, weighed}
 use Rattle.absences.specs.Replied.{policyReplyOf}
 use Rattle.book.specs.Reading.{
@@ -22,7 +22,7 @@ use Rattle.book.specs.Reading.{
   firstFault,
   readOf,
 }
-use Rattle.book.specs.Parts.{startsIn, upFrom, tableOf, policyCount, policyAt}
+use Rattle.book.specs.Parts.{startsIn, tableOf, policyCount, policyAt}
 use Rattle.book.specs.Parts.{placeOf as Parts·placeOf}
 use Rattle.book.specs.Cases.{bookB}
 use Rattle.lines.specs.Text.{decimalIn, decimal, marked, joined}
@@ -35,7 +35,7 @@ b-sheet : sheetOf bookB
     ∷ 49 ∷ 32 ∷ 110 ∷ 111 ∷ 32 ∷ 49 ∷ 49 ∷ 32 ∷ 49 ∷ 48 ∷ 49 ∷ 44 ∷ 49 ∷ 48 ∷ 52 ∷ 10
     ∷ 50 ∷ 32 ∷ 110 ∷ 111 ∷ 32 ∷ 49 ∷ 48 ∷ 32 ∷ 45 ∷ 10
     ∷ []
-unfolding bit sumTo toN cons? members filter hasb setOf ones onesIn trailingZeros policyRuling ahead rank outweighsb placeOf closeOf placedOf candidates tryEach search rowFrom joins listed sizesFrom weighed policyReplyOf number fieldsAt countLook entryLook inTurn sectionLooks past firstFault readOf startsIn Parts·placeOf upFrom tabulate tableOf policyCount policyAt decimalIn decimal marked joined verdictWord names filled setsText lineOf badLine staffOf replyTo lineBy linesFrom sheetBy sheetOf
+unfolding bit sumTo toN cons? members filter hasb setOf ones onesIn trailingZeros policyRuling ahead rank outweighsb placeOf closeOf placedOf candidates tryEach search rowFrom joins listed sizesFrom weighed policyReplyOf number fieldsAt countLook entryLook inTurn sectionLooks past firstFault readOf startsIn Parts·placeOf tabulate tableOf policyCount policyAt decimalIn decimal marked joined verdictWord names filled setsText lineOf badLine staffOf replyTo lineBy linesFrom sheetBy sheetOf
 b-sheet = refl
 
 -- "B with one byte added prints `bad 19 60`"

@@ -8,7 +8,7 @@ use lib.ListN.{length, drop}
 use Rattle.roster.specs.Limits.{rowLimit}
 use Rattle.roster.specs.declared.Policy.{Policy}
 use Rattle.roster.specs.declared.Reply.{Reply}
-use Rattle.crews.specs.Filled.{tabulate}
+use Rattle.sets.specs.Arrays.{tabulate}
 use Rattle.absences.specs.Tried.{Way, skipping}
 use Rattle.absences.specs.Replied.{policyReplyOf}
 use Rattle.book.specs.Faults.{faultNumber}

@@ -1,11 +1,9 @@
 -- 01, the table of "What comes back": which values go with each verdict. Nothing here is proved: these are definitions.
 use mathlib.Core.List.{List, [], _∷_}
 use Prim.Native.Nat.{ℕ}
-use lib.ListN.{replicate}
 use Rattle.roster.specs.declared.Verdict.{Verdict}
 use Rattle.roster.specs.declared.Verdict.the-variants.{Yes, No, Undecided, Crews, None, Refused}
 use Rattle.roster.specs.declared.Reply.{Reply}
-use Rattle.roster.specs.Limits.{crewLimit}
 
 -- "all 0"
 abbrev pub noCrews : List ℕ

@@ -11,3 +11,4 @@ pub mod Build
 pub mod Members
 pub mod Image
 pub mod Unions
+pub mod Arrays

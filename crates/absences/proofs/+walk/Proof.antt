@@ -13,7 +13,7 @@ use borrow.Fn.PlainCycle.{Measures, is, falls, and}
 use denote.Ref.{now}
 use Rattle.roster.specs.declared.Table.{Table}
 use Rattle.roster.specs.Limits.{rowLimit}
-use Rattle.crews.specs.Filled.{at}
+use Rattle.sets.specs.Arrays.{at}
 use Rattle.absences.specs.declared.Search.{Search}
 use Rattle.absences.specs.declared.Prefix.{Prefix}
 use Rattle.absences.specs.declared.Course.the-variants.{Open}

@@ -1,12 +1,9 @@
 -- The loop's invariant: the rows passed have what they hold. Assumes nothing.
-use borrow.Author.Needs.{needs}
-use mathlib.Core.Path.{_≡_, refl, _∙_}
 use mathlib.Core.List.{List}
-use Prim.Native.Nat.{ℕ, _-_, _≤_, _<_}
-use native.Mathlib.Omega.{arith}
-use lib.ListN.{length, take, length-set}
-use Rattle.book.specs.Parts.{holdingsAt, heldOr0, upFrom}
-use Rattle.book.proofs.Places.{fill-more, filled}
+use Prim.Native.Nat.{ℕ, _-_}
+use borrow.Author.Needs.{needs}
+use Rattle.sets.specs.Laws.Arrays.{Passed, passed-none, passed-stored, passed-all}
+use Rattle.book.specs.Parts.{holdingsAt, heldOr0}
 use Rattle.book.proofs.all_held.Statement.{statement}
 use Rattle.book.proofs.all_held.Tie as tie
 
@@ -15,45 +12,40 @@ abbrev heldIn : List ℕ → ℕ → ℕ → ℕ
 heldIn book start row = heldOr0 (holdingsAt book start row)
 
 abbrev Inv-loop : tie.InvT-loop
-Inv-loop book start held₀ row₀ held row = (length held ≡ 64) × (row ≤ 64) × (take row held ≡ upFrom 0 row (heldIn book start))
+Inv-loop book start held₀ row₀ held row = Passed 64 (heldIn book start) row held
 
 abbrev μ-loop : tie.MeasureT-loop
 μ-loop book start held₀ row₀ held row = 64 - row
 
 loop-holds : tie.Need-loop-holds Inv-loop μ-loop
-unfolding upFrom
-loop-holds c = (refl, omega arith, refl)
+loop-holds c = passed-none 64 (heldIn (c .before .args .book .now) (c .before .args .start))
 
 held-at-requires : tie.Need-held-at-requires Inv-loop μ-loop
 held-at-requires c κs = search needs
 
 mul-held : tie.Need-mul-held Inv-loop μ-loop
-mul-held c = omega arith
+mul-held c = search needs
 
 array-write-held : tie.Need-array-write-held Inv-loop μ-loop
-array-write-held c = omega arith
+array-write-held c = search needs
 
 add-row : tie.Need-add-row Inv-loop μ-loop
-add-row c = omega arith
+add-row c = search needs
 
 loop-less : tie.Need-loop-less Inv-loop μ-loop
-loop-less c = omega arith
+loop-less c = search needs
 
 loop-again : tie.Need-loop-again Inv-loop μ-loop
 loop-again c =
     let l = c .before .before .loop in
     let a = c .before .before .before .before .args in
-    let room : l .row < length (l .held) = omega arith in (
-      length-set (l .held) (l .row) (c .held-at .result) ∙ l .inv .0,
-      omega arith,
-      fill-more (l .held) (l .row) (heldIn (a .book .now) (a .start)) (c .held-at .result) room (l .inv .2) (c .held-at .ensures),
-    )
+    passed-stored 64 (heldIn (a .book .now) (a .start)) (l .row) (c .held-at .result) (l .held) (l .inv) (c .before .loop-test .taken) (c .held-at .ensures)
 
 returns : tie.Need-returns Inv-loop μ-loop
 returns c =
     let l = c .before .loop in
     let a = c .before .before .before .args in
-    filled (l .held) (l .row) (heldIn (a .book .now) (a .start)) 64 (l .inv .0) (l .inv .1) (c .loop-test .left) (l .inv .2)
+    passed-all 64 (heldIn (a .book .now) (a .start)) (l .row) (l .held) (l .inv) (c .loop-test .left)
 
 pub all-held-spec : {M : Type 1} → statement M
 all-held-spec =

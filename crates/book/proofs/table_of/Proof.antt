@@ -3,9 +3,10 @@ use borrow.Author.Needs.{needs}
 use mathlib.Core.Path.{_≡_, ap, _∙_}
 use mathlib.Core.List.{List}
 use Prim.Native.Nat.{ℕ}
+use Rattle.sets.specs.Arrays.{tabulate}
 use Rattle.roster.specs.declared.Table.{Table}
 use Rattle.book.specs.Reading.{countAt}
-use Rattle.book.specs.Parts.{holdingsAt, heldOr0, upFrom, tableOf}
+use Rattle.book.specs.Parts.{holdingsAt, heldOr0, tableOf}
 use Rattle.book.specs.declared.Starts.{Starts}
 use Rattle.book.proofs.Looks.{both}
 use Rattle.book.proofs.table_of.Statement.{statement}
@@ -13,7 +14,7 @@ use Rattle.book.proofs.table_of.Tie as tie
 
 -- the holdings of the section that starts here
 abbrev heldFrom : List ℕ → ℕ → List ℕ
-heldFrom book start = upFrom 0 64 (λ row. heldOr0 (holdingsAt book start row))
+heldFrom book start = tabulate 64 (λ row. heldOr0 (holdingsAt book start row))
 
 -- a table is its two parts
 table-of : {h h′ : List ℕ} {n n′ : ℕ} → h ≡ h′ → n ≡ n′ → _≡_ {A = Table} (record { holdings = h; rows = n }) (record { holdings = h′; rows = n′ })

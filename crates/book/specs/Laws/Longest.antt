@@ -4,12 +4,13 @@ use mathlib.Core.List.{List, _++_}
 use Prim.Native.Nat.{ℕ, zero, suc, _+_, _*_, _≤_, _<_}
 use native.Mathlib.Omega.{arith}
 use lib.ListN.{length, length-append}
+use Rattle.sets.specs.Arrays.{tabulate}
+use Rattle.sets.specs.Laws.Arrays.{length-tabulate}
 use Rattle.roster.specs.Limits.{rowLimit}
 use Rattle.roster.specs.Refusals.{policyRuling}
 use Rattle.roster.specs.declared.Policy.{Policy}
 use Rattle.book.specs.Layout.{Contents, Row, codeWidths, rowWidths, policyWidths, codeFields, rowFields, policyFields, permissionLimit, policyLimit, section, bytesOf, Each, Below, Ascends, Admitted, LayoutOf}
 use Rattle.book.specs.Reading.{codes, rows, policies}
-use Rattle.book.specs.Parts.{upFrom}
 use Rattle.book.specs.Laws.Sections.{joined-length}
 use Rattle.book.specs.Laws.Values.{code-codec, row-codec, policy-codec, each, each-both, code-fits, row-fits, policy-fits}
 
@@ -36,21 +37,17 @@ good-short v book l =
 
 -- ---- one that is as long
 
-up-length : {A : Type 0} (f : ℕ → A) (i n : ℕ) → length (upFrom i n f) ≡ n
-unfolding upFrom
-up-length f i zero = refl
-up-length f i (suc n) = ap suc (up-length f (suc i) n)
+each-tabulate : {A : Type 0} (P : A → Type 0) (n : ℕ) (f : ℕ → A) → ((j : ℕ) → j < n → P (f j)) → Each P (tabulate n f)
+unfolding tabulate Each
+each-tabulate P zero f h = tt
+each-tabulate P (suc n) f h = (h 0 (omega arith), each-tabulate P n (λ i. f (suc i)) (λ j l. h (suc j) (omega arith)))
 
-each-up : {A : Type 0} (P : A → Type 0) (f : ℕ → A) (i n : ℕ) → ((j : ℕ) → j < i + n → P (f j)) → Each P (upFrom i n f)
-unfolding upFrom Each
-each-up P f i zero h = tt
-each-up P f i (suc n) h = (h i (omega arith), each-up P f (suc i) n (λ j l. h j (omega arith)))
-
-ascends-up : {A : Type 0} (key : A → ℕ) (f : ℕ → A) → ((j : ℕ) → key (f j) ≡ j) → (i n : ℕ) → Ascends key (upFrom i n f)
-unfolding upFrom Ascends Below
-ascends-up key f e i zero = tt
-ascends-up key f e i (suc zero) = (tt, tt)
-ascends-up key f e i (suc (suc n)) = (omega (arith, e i, e (suc i)), ascends-up key f e (suc i) (suc n))
+-- each key is one more than the one before
+ascends-tabulate : {A : Type 0} (key : A → ℕ) (n : ℕ) (f : ℕ → A) → ((j : ℕ) → key (f (suc j)) ≡ suc (key (f j))) → Ascends key (tabulate n f)
+unfolding tabulate Ascends Below
+ascends-tabulate key zero f e = tt
+ascends-tabulate key (suc zero) f e = (tt, tt)
+ascends-tabulate key (suc (suc n)) f e = (omega (arith, e 0), ascends-tabulate key (suc n) (λ i. f (suc i)) (λ j. e (suc j)))
 
 abbrev row-number : ℕ → Row
 row-number i = record { staff = i; holdings = 0 }
@@ -61,28 +58,28 @@ least i = record { task = 1; away = 0; crews = 1; size = 1 }
 -- as many permissions, rows and policies as may be
 abbrev pub fullest : Contents
 fullest = record {
-  codes = upFrom 0 permissionLimit (λ i. i);
-  rows = upFrom 0 rowLimit row-number;
-  policies = upFrom 0 policyLimit least;
+  codes = tabulate permissionLimit (λ i. i);
+  rows = tabulate rowLimit row-number;
+  policies = tabulate policyLimit least;
 }
 
 pub fullest-admitted : Admitted fullest
 unfolding policyRuling
 fullest-admitted =
-    let np = up-length (λ (i : ℕ). i) 0 permissionLimit in
+    let np = length-tabulate permissionLimit (λ (i : ℕ). i) in
     record {
       some = rw np (omega arith);
       permissions = rw np (omega arith);
-      rows = rw (up-length row-number 0 rowLimit) (omega arith);
-      policies = rw (up-length least 0 policyLimit) (omega arith);
-      codes = each-up _ (λ i. i) 0 permissionLimit (λ j l. omega arith);
-      codesAscend = ascends-up (λ c. c) (λ i. i) (λ j. refl) 0 permissionLimit;
-      staff = each-up _ row-number 0 rowLimit (λ j l. omega arith);
-      staffAscends = ascends-up (λ row. row .staff) row-number (λ j. refl) 0 rowLimit;
-      holdings = rw np (each-up _ row-number 0 rowLimit (λ j l. omega arith));
-      sound = rw np (each-up _ least 0 policyLimit (λ j l. record { task = omega arith; sound = refl }));
+      rows = rw (length-tabulate rowLimit row-number) (omega arith);
+      policies = rw (length-tabulate policyLimit least) (omega arith);
+      codes = each-tabulate _ permissionLimit (λ i. i) (λ j l. omega arith);
+      codesAscend = ascends-tabulate (λ c. c) permissionLimit (λ i. i) (λ j. refl);
+      staff = each-tabulate _ rowLimit row-number (λ j l. omega arith);
+      staffAscends = ascends-tabulate (λ row. row .staff) rowLimit row-number (λ j. refl);
+      holdings = rw np (each-tabulate _ rowLimit row-number (λ j l. omega arith));
+      sound = rw np (each-tabulate _ policyLimit least (λ j l. record { task = omega arith; sound = refl }));
     }
 
 pub longest-book : length (bytesOf fullest) ≡ 803
 longest-book =
-    omega (arith, layout-length fullest fullest-admitted, up-length (λ (i : ℕ). i) 0 permissionLimit, up-length row-number 0 rowLimit, up-length least 0 policyLimit)
+    omega (arith, layout-length fullest fullest-admitted, length-tabulate permissionLimit (λ (i : ℕ). i), length-tabulate rowLimit row-number, length-tabulate policyLimit least)

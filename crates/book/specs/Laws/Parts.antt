@@ -1,11 +1,13 @@
 -- The table, the policies and the rows of a book are its values; a refused book has none. Assumes nothing.
-use mathlib.Core.Path.{_≡_, refl, sym, ap, _∙_}
+use mathlib.Core.Path.{_≡_, refl, sym, ap, _∙_, ap₂, fun-ext}
 use mathlib.Core.Logic.{_⊎_, inl, inr}
 use mathlib.Core.Option.{Option, some, none}
 use mathlib.Core.List.{List, [], _∷_}
 use Prim.Native.Nat.{ℕ, zero, suc, _+_, _≤_, _<_}
 use native.Mathlib.Omega.{arith}
 use lib.ListN.{length, getD, getElem?, List·getD-eq-default}
+use Rattle.sets.specs.Arrays.{tabulate}
+use Rattle.sets.specs.Laws.Arrays.{at-tabulate}
 use Rattle.roster.specs.Limits.{rowLimit}
 use Rattle.roster.specs.Refusals.{madeBy}
 use Rattle.roster.specs.declared.Policy.{Policy}
@@ -13,7 +15,7 @@ use Rattle.roster.specs.declared.Ruling.{Ruling}
 use Rattle.roster.specs.declared.Table.{Table}
 use Rattle.book.specs.Layout.{Contents, Row, Each, PolicyFits, LayoutOf}
 use Rattle.book.specs.Reading.{rows, policies, width, entryAt, countAt, readOf, startsOf}
-use Rattle.book.specs.Parts.{valuesAt, contentsOf, startsIn, startsBy, placeOf, staffFrom, staffAt, holdingsFrom, holdingsAt, heldOr0, upFrom, tableOf, policyCount, listedBy, policyFrom, policyAt}
+use Rattle.book.specs.Parts.{valuesAt, contentsOf, startsIn, startsBy, placeOf, staffFrom, staffAt, holdingsFrom, holdingsAt, heldOr0, tableOf, policyCount, listedBy, policyFrom, policyAt}
 use Rattle.book.specs.Promises.{Bytes, staffBy, holdingsBy, policyBy, tableFor, PartsOf, nothing}
 use Rattle.book.specs.Laws.Sections.{entries-length}
 use Rattle.book.specs.Laws.Values.{row-codec, policy-codec}
@@ -50,11 +52,6 @@ each-nth P [] i x h e = let z : _≡_ {A = ℕ} 0 1 = cc in absurd (omega arith)
 each-nth {A} P (y ∷ l) zero x h e = let same : y ≡ x = cc in rw same at (h .0)
 each-nth P (y ∷ l) (suc i) x h e = each-nth P l i x (h .1) e
 
-up-same : (f g : ℕ → ℕ) → ((i : ℕ) → f i ≡ g i) → (i n : ℕ) → upFrom i n f ≡ upFrom i n g
-unfolding upFrom
-up-same f g e i zero = refl
-up-same f g e i (suc n) = rw (e i, up-same f g e (suc i) n)
-
 -- the parts, once the rows and the policies are known by their places
 module _ (v : Contents) (book : List ℕ) (listed : ℕ)
     (rowCount : countAt book (startsIn book .rows) ≡ length (v .rows))
@@ -68,7 +65,7 @@ module _ (v : Contents) (book : List ℕ) (listed : ℕ)
   table : tableOf book ≡ tableFor v
   unfolding tableOf
   table =
-      rw (up-same (λ i. heldOr0 (holdingsAt book (startsIn book .rows) i)) (λ i. heldOr0 (holdingsBy (getElem? (v .rows) i))) (λ i. ap heldOr0 (held i)) 0 rowLimit, rowCount)
+      ap₂ (λ (f : ℕ → ℕ) (n : ℕ). record { holdings = tabulate rowLimit f; rows = n }) (fun-ext (λ i. ap heldOr0 (held i))) rowCount
 
   parts : PartsOf v book
   unfolding policyCount policyAt
@@ -138,12 +135,6 @@ some-parts book bytes = go (reply book)
         record { values = contentsOf book; few = l .admitted .rows; parts = layout-parts (contentsOf book) book l }
     go (inr r) = record { values = nothing; few = omega arith; parts = refused-parts book (r .fault) (r .place) (r .reply) }
 
-up-at : (f : ℕ → ℕ) (i n j : ℕ) → j < n → getD (upFrom i n f) j 0 ≡ f (i + j)
-unfolding upFrom
-up-at f i zero j h = absurd (omega arith)
-up-at f i (suc n) zero h = let here : i + 0 ≡ i = omega arith in rw here
-up-at f i (suc n) (suc j) h = let same : suc i + j ≡ i + suc j = omega arith in up-at f (suc i) n j (omega arith) ∙ ap f same
-
 there : {A : Type 0} (l : List A) (i : ℕ) → i < length l → (x : A) × (getElem? l i ≡ some x)
 there [] i h = absurd (omega arith)
 there (x ∷ l) zero h = (x, refl)
@@ -172,7 +163,7 @@ view-agrees book bytes row =
           let here = there (v .rows) row (omega arith) in
           let said = p .holdings row ∙ ap holdingsBy (here .1) in
           let table = ap (λ (t : Table). getD (t .holdings) row 0) (p .table)
-          ∙ up-at (λ i. heldOr0 (holdingsBy (getElem? (v .rows) i))) 0 rowLimit row (omega (arith, some .few))
+          ∙ at-tabulate rowLimit (λ i. heldOr0 (holdingsBy (getElem? (v .rows) i))) row (omega (arith, some .few))
           ∙ ap (λ (i : ℕ). heldOr0 (holdingsBy (getElem? (v .rows) i))) (omega arith)
           ∙ ap (λ (o : Option Row). heldOr0 (holdingsBy o)) (here .1) in
           said ∙ ap holdings.Held (sym table);

@@ -10,7 +10,7 @@ use borrow.Author.Needs.{needs}
 use borrow.Fn.Kinds.{In}
 use borrow.Fn.PlainCycle.{Measures, is, falls, and}
 use Rattle.crews.specs.declared.Filling.{Filling}
-use Rattle.crews.specs.Filled.{at}
+use Rattle.sets.specs.Arrays.{at}
 use Rattle.crews.specs.Laws.Search.{search-done, search-full}
 use Rattle.crews.specs.Laws.Steps as step
 use Rattle.crews.proofs.Turns as turn

@@ -18,7 +18,8 @@ use Rattle.roster.specs.Refusals.{namedRuling}
 use Rattle.roster.specs.Replies.{noCrews, replyWith}
 use Rattle.roster.specs.Laws.Rulings.{named-within}
 use Rattle.crews.specs.Filling.{Outcome, plainly, holdsOf, holdersOf, present, filling}
-use Rattle.crews.specs.Filled.{tabulate, at, endingOf, filledOf, foundFrom, verdictOf, repliedOf}
+use Rattle.sets.specs.Arrays.{tabulate, at}
+use Rattle.crews.specs.Filled.{endingOf, filledOf, foundFrom, verdictOf, repliedOf}
 use Rattle.crews.specs.Named.{NamedReply}
 use Rattle.crews.specs.Laws.Search.{search-none}
 use Rattle.crews.specs.Laws.Named.{allowed-by}

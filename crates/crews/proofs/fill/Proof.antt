@@ -7,7 +7,8 @@ use borrow.Author.Needs.{needs}
 use Rattle.crews.specs.declared.Filling.{Filling}
 use Rattle.crews.specs.Filling.{plainly}
 use Rattle.crews.specs.Filling as definition
-use Rattle.crews.specs.Filled.{at, filledOf, closedWhere, foundFrom}
+use Rattle.sets.specs.Arrays.{at}
+use Rattle.crews.specs.Filled.{filledOf, closedWhere, foundFrom}
 use Rattle.crews.specs.Laws.Steps.{filled-over, says-exhausted, begun-short, found-few, found-many, found-idle}
 use Rattle.crews.proofs.fill.Statement.{statement}
 use Rattle.crews.proofs.fill.Tie as tie

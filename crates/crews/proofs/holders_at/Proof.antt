@@ -12,7 +12,7 @@ use Rattle.sets.specs.Sets.{bit, bit-le, shl-one, shr-and-one}
 use Rattle.sets.specs.Members.{hasb, setOf}
 use Rattle.sets.specs.Laws.Tests.{has-hasb, out-hasb}
 use Rattle.sets.specs.Laws.Build.{setOf-none, setOf-yes, setOf-no}
-use Rattle.crews.specs.Filled.{at}
+use Rattle.sets.specs.Arrays.{at}
 use Rattle.crews.proofs.holders_at.Statement.{statement}
 use Rattle.crews.proofs.holders_at.Tie as tie
 

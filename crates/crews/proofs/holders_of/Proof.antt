@@ -3,8 +3,8 @@ use mathlib.Core.Path.{refl}
 use Prim.Native.Nat.{_-_}
 use borrow.Author.Needs.{needs}
 use Rattle.crews.specs.Filling.{holdersOf}
-use Rattle.crews.specs.Filled.{at}
-use Rattle.crews.specs.Laws.Arrays.{Passed, passed-none, passed-stored, passed-all}
+use Rattle.sets.specs.Arrays.{at}
+use Rattle.sets.specs.Laws.Arrays.{Passed, passed-none, passed-stored, passed-all}
 use Rattle.crews.proofs.holders_of.Statement.{statement}
 use Rattle.crews.proofs.holders_of.Tie as tie
 

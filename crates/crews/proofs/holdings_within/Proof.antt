@@ -6,7 +6,8 @@ use lib.Bits.{bitAnd}
 use lib.ListN.{getD}
 use borrow.Author.Needs.{needs}
 use Rattle.crews.specs.Filling.{holdsOf}
-use Rattle.crews.specs.Laws.Arrays.{Passed, passed-none, passed-stored, passed-left, passed-all, holds-row, holds-past}
+use Rattle.sets.specs.Laws.Arrays.{Passed, passed-none, passed-stored, passed-left, passed-all}
+use Rattle.crews.specs.Laws.Arrays.{holds-row, holds-past}
 use Rattle.crews.proofs.holdings_within.Statement.{statement}
 use Rattle.crews.proofs.holdings_within.Tie as tie
 

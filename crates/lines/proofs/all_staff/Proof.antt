@@ -3,8 +3,8 @@ use mathlib.Core.Path.{ap, _∙_}
 use mathlib.Core.List.{List}
 use Prim.Native.Nat.{ℕ, _-_}
 use borrow.Author.Needs.{needs}
-use Rattle.crews.specs.Filled.{tabulate}
-use Rattle.crews.specs.Laws.Arrays.{Passed, passed-none, passed-stored, passed-all}
+use Rattle.sets.specs.Arrays.{tabulate}
+use Rattle.sets.specs.Laws.Arrays.{Passed, passed-none, passed-stored, passed-all}
 use Rattle.book.specs.Parts.{staffAt}
 use Rattle.book.specs.declared.Starts.{Starts}
 use Rattle.lines.specs.Sheet.{staffOr0, staffOf}

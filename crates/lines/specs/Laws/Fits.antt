@@ -19,8 +19,8 @@ use Rattle.roster.specs.declared.Reply.{Reply}
 use Rattle.roster.specs.declared.Table.{Table}
 use Rattle.roster.specs.Meaning.{CrewList}
 use Rattle.crews.specs.Named.{firstList}
-use Rattle.crews.specs.Filled.{tabulate}
-use Rattle.crews.specs.Laws.Arrays.{at-tabulate, at-past}
+use Rattle.sets.specs.Arrays.{tabulate}
+use Rattle.sets.specs.Laws.Arrays.{at-tabulate, at-past}
 use Rattle.crews.specs.Laws.Exact.{crews-past}
 use Rattle.absences.specs.Asked.{PolicyReply}
 use Rattle.absences.specs.Replied.{policyReplyOf}

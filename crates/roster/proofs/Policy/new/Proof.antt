@@ -1,5 +1,5 @@
 -- The ruling with no rows picks what is made. Assumes nothing.
-use mathlib.Core.Path.{_≡_, refl, sym, ap, _∙_}
+use mathlib.Core.Path.{refl, sym, ap, _∙_}
 use Rattle.roster.specs.declared.Ruling.{Ruling}
 use Rattle.roster.specs.Refusals.{madeBy}
 use borrow.Author.Needs.{needs}
