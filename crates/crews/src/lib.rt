@@ -35,7 +35,8 @@ pub enum Ending {
     Undecided,
 }
 
-// What filling comes to: the crews are all 0 unless it ends complete. The crews stand first so that they are copied in whole words.
+// What filling comes to: the crews are all 0 unless it ends complete. They stand first because behind a field of one byte they are copied
+// more slowly.
 pub struct Filled {
     pub crews: [u64; Policy::CREWS],
     pub units: u32,

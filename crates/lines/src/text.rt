@@ -2,10 +2,10 @@
 // place after it. Callers see to it that there is room.
 use roster::Policy;
 ghost use mathlib.Core.Path.{_≡_};
-ghost use mathlib.Core.List.{List, [], _∷_, map};
+ghost use mathlib.Core.List.{[], _∷_, map};
 ghost use Prim.Native.Nat.{_<_, _^_};
 ghost use lib.Bits.{bitXor};
-ghost use lib.ListN.{length, getD};
+ghost use lib.ListN.{getD};
 ghost use Rattle.roster.specs.Limits.{rowLimit};
 ghost use Rattle.lines.specs.Text.{Room, Appended, space, comma, slash, dash, marked};
 ghost use Rattle.lines.specs.Text.{decimal as Text·decimal, digit as Text·digit};
