@@ -157,7 +157,7 @@ fn candidates(holders: &[u64], missing: u32, free: u64) -> u64
 }
 
 // How filling goes on from a placement just made, where `spent` units are spent already. The crew is closed here and not where the row was
-// placed, so that the crews are copied once for each call.
+// placed, so that no copy of the crews follows at once on the write into them.
 fn fill_on(
     holds: &[u32; Policy::ROWS],
     holders: &[u64; 32],
