@@ -8,7 +8,7 @@ use Rattle.roster.specs.declared.Ruling.{Ruling}
 use Rattle.roster.specs.declared.Ruling.the-variants.{Admitted, Refused}
 use Rattle.roster.specs.declared.Policy.{Policy}
 use Rattle.roster.specs.declared.Made.{Made}
-use Rattle.roster.specs.declared.Made.the-variants as made
+use Rattle.roster.specs.declared.Made.the-variants as variants
 use Rattle.roster.specs.Limits.{rowLimit, awayLimit, crewLimit, sizeLimit}
 
 -- "**1** more than 64 rows; **2** P is zero; **3** s above 64; **4** d outside 1 to 8; **5** t outside 1 to 64; **6** a named absence has a
@@ -50,10 +50,17 @@ namedRuling rows P d t A =
     (refusedIf (leb (2 ^ rows) A) Absence
     Admitted))))
 
--- the checked constructor knows no table: 2, 3, 4, 5
+-- what is refused of a policy by itself, without a table: 2, 3, 4, 5
+abbrev pub ownRuling : Policy → Ruling
+ownRuling p = policyRuling 0 (p .task) (p .away) (p .crews) (p .size)
+
+-- the checked constructor: the policy, or its own first fault
 abbrev pub madeBy : Ruling → Policy → Made
-madeBy Admitted policy = made.Policy policy
-madeBy (Refused refusal) policy = made.Refused refusal
+madeBy Admitted policy = variants.Policy policy
+madeBy (Refused refusal) policy = variants.Refused refusal
+
+abbrev pub made : Policy → Made
+made p = madeBy (ownRuling p) p
 
 abbrev pub madeOf : ℕ → ℕ → ℕ → ℕ → Made
-madeOf P s d t = madeBy (policyRuling 0 P s d t) (record { task = P; away = s; crews = d; size = t })
+madeOf P s d t = made (record { task = P; away = s; crews = d; size = t })

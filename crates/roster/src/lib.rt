@@ -5,6 +5,7 @@ ghost use Prim.Native.Nat.{_^_};
 ghost use lib.Dec.{leb};
 ghost use Rattle.roster.specs.Limits.{rowLimit, awayLimit, crewLimit, sizeLimit};
 ghost use Rattle.roster.specs.Refusals.{numberOf, policyRuling, namedRuling, madeOf};
+ghost use Rattle.roster.specs.Replies.{noCrews, replyWith};
 
 // Who holds what: bit i of a row's holdings is permission i. Holdings past the row count play no part.
 pub struct Table {
@@ -83,6 +84,81 @@ impl Policy {
                 size: size,
             }),
             Ruling::Refused(refusal) => Made::Refused(refusal),
+        }
+    }
+}
+
+// Every reply is made here, one maker for each row of the table "What comes back".
+impl Reply {
+    // The policy holds: the first list with nobody absent.
+    pub fn yes(crews: [u64; Policy::CREWS], need: u32) -> Reply
+        ensures { λ r. ⌜ r ≡ replyWith crews 0 need 0 Verdict.Yes ⌝ }
+    {
+        Reply {
+            verdict: Verdict::Yes,
+            crews: crews,
+            blocker: 0,
+            units: need,
+        }
+    }
+
+    // It does not: the first blocking absence.
+    pub fn no(blocker: u64, need: u32) -> Reply
+        ensures { λ r. ⌜ r ≡ replyWith noCrews blocker need 0 Verdict.No ⌝ }
+    {
+        Reply {
+            verdict: Verdict::No,
+            crews: [0; Policy::CREWS],
+            blocker: blocker,
+            units: need,
+        }
+    }
+
+    // The allowance is below the need.
+    pub fn undecided(allowance: u32) -> Reply
+        ensures { λ r. ⌜ r ≡ replyWith noCrews 0 0 allowance Verdict.Undecided ⌝ }
+    {
+        Reply {
+            verdict: Verdict::Undecided,
+            crews: [0; Policy::CREWS],
+            blocker: 0,
+            units: allowance,
+        }
+    }
+
+    // A named absence leaves crews: the first list.
+    pub fn crews(crews: [u64; Policy::CREWS], need: u32) -> Reply
+        ensures { λ r. ⌜ r ≡ replyWith crews 0 need 0 Verdict.Crews ⌝ }
+    {
+        Reply {
+            verdict: Verdict::Crews,
+            crews: crews,
+            blocker: 0,
+            units: need,
+        }
+    }
+
+    // It leaves none.
+    pub fn none(need: u32) -> Reply
+        ensures { λ r. ⌜ r ≡ replyWith noCrews 0 need 0 Verdict.None ⌝ }
+    {
+        Reply {
+            verdict: Verdict::None,
+            crews: [0; Policy::CREWS],
+            blocker: 0,
+            units: need,
+        }
+    }
+
+    // Nothing but the refusal.
+    pub fn refused(refusal: Refusal) -> Reply
+        ensures { λ r. ⌜ r ≡ replyWith noCrews 0 0 0 (Verdict.Refused refusal) ⌝ }
+    {
+        Reply {
+            verdict: Verdict::Refused(refusal),
+            crews: [0; Policy::CREWS],
+            blocker: 0,
+            units: 0,
         }
     }
 }
