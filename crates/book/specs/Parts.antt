@@ -7,9 +7,9 @@ use lib.Dec.{leb, ltb}
 use lib.ListN.{length}
 use Rattle.sets.specs.Arrays.{tabulate}
 use Rattle.roster.specs.Limits.{rowLimit}
-use Rattle.roster.specs.Refusals.{madeOf}
+use Rattle.roster.specs.Refusals.{made}
 use Rattle.roster.specs.declared.Made.{Made}
-use Rattle.roster.specs.declared.Made.the-variants as made
+use Rattle.roster.specs.declared.Made.the-variants as variants
 use Rattle.roster.specs.declared.Policy.{Policy}
 use Rattle.roster.specs.declared.Table.{Table}
 use Rattle.book.specs.Layout.{Contents}
@@ -97,13 +97,11 @@ unfoldable pub policyCount : List ℕ → ℕ
 policyCount book = countAt book (startsIn book .policies)
 
 abbrev pub listedBy : Made → Listed
-listedBy (made.Policy p) = listed.Policy p
-listedBy (made.Refused refusal) = listed.NoSuchPolicy
+listedBy (variants.Policy p) = listed.Policy p
+listedBy (variants.Refused refusal) = listed.NoSuchPolicy
 
 abbrev pub policyFrom : List ℕ → Place → Listed
-policyFrom book (place.At at) =
-    let p = entryAt policies book at in
-    listedBy (madeOf (p .task) (p .away) (p .crews) (p .size))
+policyFrom book (place.At at) = listedBy (made (entryAt policies book at))
 policyFrom book place.Nothing = listed.NoSuchPolicy
 
 -- the i-th policy of the section that starts here

@@ -8,9 +8,9 @@ use Prim.Native.Nat.{ℕ, zero, suc, _+_, _*_, _^_}
 use lib.Dec.{leb, ltb}
 use lib.ListN.{length, getD}
 use Rattle.roster.specs.Limits.{rowLimit}
-use Rattle.roster.specs.Refusals.{outside, madeOf}
+use Rattle.roster.specs.Refusals.{outside, made}
 use Rattle.roster.specs.declared.Made.{Made}
-use Rattle.roster.specs.declared.Made.the-variants as made
+use Rattle.roster.specs.declared.Made.the-variants as variants
 use Rattle.roster.specs.declared.Policy.{Policy}
 use Rattle.book.specs.Layout.{Row, codeWidths, rowWidths, policyWidths, permissionLimit, policyLimit}
 use Rattle.book.specs.declared.Fault.{Fault}
@@ -94,8 +94,8 @@ rows = record {
 }
 
 abbrev pub byMade : Made → Look
-byMade (made.Policy p) = Sound
-byMade (made.Refused refusal) = Faulty (fault.Policy refusal)
+byMade (variants.Policy p) = Sound
+byMade (variants.Refused refusal) = Faulty (fault.Policy refusal)
 
 -- "**17** policies above 32"; "for a policy **18** P past the listed permissions, then 2, 3, 4, 5 as above"
 abbrev pub policies : Kind Policy
@@ -106,7 +106,7 @@ policies = record {
   countFault = fault.Policies;
   faults = λ listed before p.
       faultIf (pastListed listed (p .task)) fault.Task
-      (byMade (madeOf (p .task) (p .away) (p .crews) (p .size)));
+      (byMade (made p));
 }
 
 -- ---- a section

@@ -8,7 +8,7 @@ use native.Mathlib.Omega.{arith}
 use lib.Dec.{leb}
 use lib.Pow.{pow-mono}
 use borrow.Author.Tests.{leb-false, lt-leb}
-use Rattle.roster.specs.Refusals.{policyRuling, madeBy}
+use Rattle.roster.specs.Refusals.{ownRuling, madeBy}
 use Rattle.roster.specs.Laws.Rulings.{policy-within}
 use Rattle.roster.specs.declared.Policy.{Policy}
 use Rattle.roster.specs.declared.Ruling.{Ruling}
@@ -131,7 +131,7 @@ admitted (ruling.Refused refusal) p e = cc
 policy-there : (listed : ℕ) (before : Option Policy) (p : Policy) → policies .faults listed before p ≡ Sound → PolicyFits listed p
 policy-there listed before p e =
     let first = not-faulty _ _ _ e in
-    record { task = leb-false (2 ^ listed) (p .task) (first .0); sound = admitted (policyRuling 0 (p .task) (p .away) (p .crews) (p .size)) p (first .1) }
+    record { task = leb-false (2 ^ listed) (p .task) (first .0); sound = admitted (ownRuling p) p (first .1) }
 
 policy-back : (listed : ℕ) (before : Option Policy) (p : Policy) → PolicyFits listed p → policies .faults listed before p ≡ Sound
 policy-back listed before p f =
@@ -170,7 +170,7 @@ fits-row row h = h .0
 pub policy-fits : (listed : ℕ) → listed ≤ permissionLimit → (p : Policy) → PolicyFits listed p → Fits policies policyFields policy-codec p
 unfolding Fit
 policy-fits listed few p f =
-    let w = policy-within 0 (p .task) (p .away) (p .crews) (p .size) (f .sound) in (
+    let w = policy-within _ _ _ _ _ (f .sound) in (
       lt-of-lt-of-le (f .task) (pow-mono few),
       (omega (arith, w .away), (omega (arith, w .few), (omega (arith, w .small), tt))),
     )
