@@ -7,3 +7,4 @@ pub mod Longest
 pub mod Prefix
 pub mod Places
 pub mod Parts
+pub mod View

@@ -8,6 +8,7 @@ use Rattle.roster.specs.Limits.{rowLimit}
 use Rattle.roster.specs.Refusals.{ownRuling}
 use Rattle.roster.specs.declared.Ruling.the-variants as ruling
 use Rattle.roster.specs.declared.Policy.{Policy}
+use Rattle.book.specs.declared.Row.{Row}
 
 -- "Permissions, 1 to 32"
 abbrev pub permissionLimit : ℕ
@@ -28,11 +29,6 @@ rowWidths = 4 ∷ 4 ∷ []
 -- "4-byte P, then s, d, t in a byte each"
 abbrev pub policyWidths : List ℕ
 policyWidths = 4 ∷ 1 ∷ 1 ∷ 1 ∷ []
-
--- a row of the book
-pub record Row : Type 0 where
-  pub staff : ℕ
-  pub holdings : ℕ
 
 -- the values of a book: "The i-th code is bit i."
 pub record Contents : Type 0 where

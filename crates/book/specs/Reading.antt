@@ -12,7 +12,8 @@ use Rattle.roster.specs.Refusals.{outside, made}
 use Rattle.roster.specs.declared.Made.{Made}
 use Rattle.roster.specs.declared.Made.the-variants as variants
 use Rattle.roster.specs.declared.Policy.{Policy}
-use Rattle.book.specs.Layout.{Row, codeWidths, rowWidths, policyWidths, permissionLimit, policyLimit}
+use Rattle.book.specs.Layout.{codeWidths, rowWidths, policyWidths, permissionLimit, policyLimit}
+use Rattle.book.specs.declared.Row.{Row}
 use Rattle.book.specs.declared.Fault.{Fault}
 use Rattle.book.specs.declared.Fault.the-variants as fault
 use Rattle.book.specs.declared.Section.the-variants.{Permissions, Rows, Policies}

@@ -13,11 +13,12 @@ use Rattle.roster.specs.Laws.Rulings.{policy-within}
 use Rattle.roster.specs.declared.Policy.{Policy}
 use Rattle.roster.specs.declared.Ruling.{Ruling}
 use Rattle.roster.specs.declared.Ruling.the-variants as ruling
-use Rattle.book.specs.Layout.{Row, codeFields, rowFields, policyFields, permissionLimit, Each, Below, Ascends, PolicyFits}
+use Rattle.book.specs.Layout.{codeFields, rowFields, policyFields, permissionLimit, Each, Below, Ascends, PolicyFits}
 use Rattle.book.specs.Reading.{Kind, fieldsAt, pastListed, codes, rows, policies, byMade}
 use Rattle.book.specs.Laws.Codec.{Fit}
 use Rattle.book.specs.Laws.First.{not-faulty, no-fault}
 use Rattle.book.specs.Laws.Sections.{Codec, Fits, Faultless}
+use Rattle.book.specs.declared.Row.{Row}
 use Rattle.book.specs.declared.Fault.the-variants as fault
 use Rattle.book.specs.declared.Look.the-variants.{Sound}
 
