@@ -42,7 +42,7 @@ pub enum Fault {
 }
 
 // The sections, in their order.
-pub enum Section {
+enum Section {
     Permissions,
     Rows,
     Policies,
@@ -61,13 +61,13 @@ pub enum Before {
 }
 
 // Where the reader stands in a section.
-pub struct Cursor {
+struct Cursor {
     pub before: Before,
     pub at: usize,
 }
 
 // What reading a section comes to: the place past it, or its first fault with its place.
-pub enum Step {
+enum Step {
     Next(usize),
     Refused(Fault, usize),
 }
