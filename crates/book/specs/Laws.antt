@@ -3,6 +3,7 @@ pub mod Codec
 pub mod Sections
 pub mod Values
 pub mod Books
+pub mod Refused
 pub mod Longest
 pub mod Prefix
 pub mod Places
