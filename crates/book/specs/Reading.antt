@@ -81,17 +81,18 @@ abbrev pub staffOf : Option Row → Option ℕ
 staffOf none = none
 staffOf (some row) = some (row .staff)
 
--- "**14** rows above 64"; "for a row **15** staff number not ascending, **16** a holding past the listed permissions"
+-- "for a row **15** staff number not ascending, **16** a holding past the listed permissions"
+abbrev pub rowLook : Bool → Bool → Look
+rowLook low beyond = faultIf low fault.Staff (faultIf beyond fault.Holdings Sound)
+
+-- "**14** rows above 64"
 abbrev pub rows : Kind Row
 rows = record {
   widths = rowWidths;
   value = λ f. record { staff = getD f 0 0; holdings = getD f 1 0 };
   outOfRange = ltb rowLimit;
   countFault = fault.Rows;
-  faults = λ listed before row.
-      faultIf (notAbove (staffOf before) (row .staff)) fault.Staff
-      (faultIf (pastListed listed (row .holdings)) fault.Holdings
-      Sound);
+  faults = λ listed before row. rowLook (notAbove (staffOf before) (row .staff)) (pastListed listed (row .holdings));
 }
 
 abbrev pub byMade : Made → Look

@@ -17,13 +17,12 @@ use Rattle.roster.specs.declared.Ruling.{Ruling}
 use Rattle.roster.specs.declared.Ruling.the-variants.{Admitted}
 use Rattle.book.specs.Layout.{Each}
 use Rattle.book.specs.Faults.{faultNumber, BookNumber}
-use Rattle.book.specs.Reading.{Kind, Found, faultIf, notAbove, pastListed, staffOf, wholeThen, byMade, codes, rows, policies, width, entryAt, prior, countLook, entryLook, inTurn, countAt, sectionLooks, past, listedIn, endLook, looksFromPolicies, looksFromRows, looks, readOf}
+use Rattle.book.specs.Reading.{Kind, Found, faultIf, notAbove, pastListed, staffOf, rowLook, wholeThen, byMade, codes, rows, policies, width, entryAt, prior, countLook, entryLook, inTurn, countAt, sectionLooks, past, listedIn, endLook, looksFromPolicies, looksFromRows, looks, readOf}
 use Rattle.book.specs.Promises.{AllSound}
 use Rattle.book.specs.Laws.First.{not-faulty}
 use Rattle.book.specs.Laws.Books.{rowsAt, policiesAt, refused-first-fault}
 use Rattle.book.specs.Laws.Sections.{section-sound}
 use Rattle.book.specs.Laws.Values.{code-codec, row-codec, policy-codec}
-use Rattle.book.specs.declared.Row.{Row}
 use Rattle.book.specs.declared.Fault.{Fault}
 use Rattle.book.specs.declared.Fault.the-variants as fault
 use Rattle.book.specs.declared.Look.{Look}
@@ -61,10 +60,11 @@ told-ruling P s d t r p e = subst (λ (x : Ruling). Told (byMade (madeBy x p))) 
 told-code : (listed : ℕ) (before : Option ℕ) (code : ℕ) → Told (codes .faults listed before code)
 told-code listed before code = told-if (notAbove before code) fault.Code Sound (inr (omega arith, omega arith)) tt
 
-told-row : (listed : ℕ) (before : Option Row) (row : Row) → Told (rows .faults listed before row)
-told-row listed before row =
-    told-if (notAbove (staffOf before) (row .staff)) fault.Staff (faultIf (pastListed listed (row .holdings)) fault.Holdings Sound) (inr (omega arith, omega arith))
-    (told-if (pastListed listed (row .holdings)) fault.Holdings Sound (inr (omega arith, omega arith)) tt)
+told-row : (low beyond : Bool) → Told (rowLook low beyond)
+told-row true true = inr (omega arith, omega arith)
+told-row true false = inr (omega arith, omega arith)
+told-row false true = inr (omega arith, omega arith)
+told-row false false = tt
 
 told-policy : (listed : ℕ) (before : Option Policy) (p : Policy) → Told (policies .faults listed before p)
 told-policy listed before p =
@@ -108,7 +108,7 @@ looks-told book =
     let n = listedIn book in
     let end = past policies book (policiesAt book) in
     all-append (sectionLooks codes book 0 0) (looksFromRows book (rowsAt book)) (section-told codes (inr (omega arith, omega arith)) told-code book 0 0)
-    (all-append (sectionLooks rows book n (rowsAt book)) (looksFromPolicies book (policiesAt book)) (section-told rows (inr (omega arith, omega arith)) told-row book n (rowsAt book))
+    (all-append (sectionLooks rows book n (rowsAt book)) (looksFromPolicies book (policiesAt book)) (section-told rows (inr (omega arith, omega arith)) (λ listed before row. told-row (notAbove (staffOf before) (row .staff)) (pastListed listed (row .holdings))) book n (rowsAt book))
     (all-append (sectionLooks policies book n (policiesAt book)) (endLook book end ∷ [])
     (section-told policies (inr (omega arith, omega arith)) told-policy book n (policiesAt book))
     (told-if (ltb end (length book)) fault.Excess Sound (inr (omega arith, omega arith)) tt, tt)))
