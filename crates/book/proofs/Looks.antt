@@ -4,16 +4,14 @@ use mathlib.Core.Bool.{Bool, true, false}
 use mathlib.Core.Option.{Option}
 use mathlib.Core.List.{List, [], _∷_, _++_}
 use Prim.Native.Nat.{ℕ, zero, suc, _+_, _-_, _*_, _≤_, _<_}
-use native.Mathlib.Nat.{mul-suc, add-assoc}
+use native.Mathlib.Nat.{mul-suc}
 use native.Mathlib.Omega.{arith}
 use lib.Dec.{leb, ltb}
 use lib.ListN.{length}
 use borrow.Author.Tests.{ltb-false, lt-ltb, le-ltb}
-use Rattle.roster.specs.Refusals.{madeOf}
-use Rattle.book.specs.Reading.{Found, number, fieldsAt, entryAt, prior, notAbove, staffOf, faultIf, wholeThen, countLook, entryLook, inTurn, countAt, sectionLooks, past, endLook, firstFault, rows, policies}
+use Rattle.book.specs.Reading.{Found, number, fieldsAt, entryAt, prior, notAbove, staffOf, faultIf, wholeThen, countLook, entryLook, inTurn, countAt, sectionLooks, past, endLook, firstFault, rows}
 use Rattle.book.specs.Laws.First.{not-faulty, first-append}
-use Rattle.book.specs.Steps.{leadIn, staysIn, outIn, countIn, madeAt, lookIn, widthIn, stepFrom, pastEntry, startAt, looksIn, pastIn, stepIn}
-use Rattle.book.proofs.Numbers.{number-1}
+use Rattle.book.specs.Steps.{leadIn, staysIn, outIn, countIn, lookIn, widthIn, stepFrom, pastEntry, startAt, looksIn, pastIn, stepIn}
 use Rattle.book.specs.declared.Fault.{Fault}
 use Rattle.book.specs.declared.Section.{Section}
 use Rattle.book.specs.declared.Section.the-variants.{Permissions, Rows, Policies}
@@ -65,17 +63,6 @@ staff-before book (Entry at) = refl
 pub staff-stays : (book : List ℕ) (c : Cursor)
     → staysIn Rows book c ≡ notAbove (staffOf (prior (entryAt rows book) (c .before))) (number 4 book (c .at))
 staff-stays book c = ap (λ (o : Option ℕ). notAbove o (number 4 book (c .at))) (staff-before book (c .before))
-
--- what equal numbers make is equal
-pub made-of : {P P′ s s′ d d′ t t′ : ℕ} → P ≡ P′ → s ≡ s′ → d ≡ d′ → t ≡ t′ → madeOf P s d t ≡ madeOf P′ s′ d′ t′
-made-of eP es ed et = rw (eP, es, ed, et)
-
--- what a policy's fields make
-pub made-at : (book : List ℕ) (at : ℕ)
-    → madeAt book at
-    ≡ madeOf (entryAt policies book at .task) (entryAt policies book at .away) (entryAt policies book at .crews) (entryAt policies book at .size)
-unfolding fieldsAt
-made-at book at = simp (number-1, add-assoc)
 
 -- a sound look was at something whole
 pub whole : (book : List ℕ) (at wide : ℕ) (rest : Look) → wholeThen book at wide rest ≡ Sound → at + wide ≤ length book

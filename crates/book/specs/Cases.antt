@@ -1,13 +1,18 @@
--- Book B of 01, read by the definition: good; with one byte more it is refused 19 at 60; with no byte 11 at 0; and what its faults are and where.
+-- Books and what is told of them, by the published number and the place: one table, one fact, by running the definition. It pins what definition
+-- and code could change together: every number, every limit at both ends, the order of faults within an entry and between entries, and places.
 use mathlib.Core.Path.{_≡_, refl}
-use mathlib.Core.List.{List, [], _∷_, _++_}
+use mathlib.Core.List.{List, [], _∷_, _++_, foldr, map}
 use Prim.Native.Nat.{ℕ}
 use lib.ListN.{length, set, take}
+use Rattle.sets.specs.Arrays.{tabulate}
 use Rattle.roster.specs.Refusals.{policyRuling}
 use Rattle.book.specs.Layout.{Contents, bytesOf, joined, fieldBytes, littleEndian}
+use Rattle.book.specs.Faults.{faultNumber}
 use Rattle.book.specs.Reading.{number, fieldsAt, countLook, entryLook, inTurn, sectionLooks, past, firstFault, readOf}
-use Rattle.book.specs.declared.Fault.the-variants as fault
+use Rattle.book.specs.declared.Reading.{Reading}
 use Rattle.book.specs.declared.Reading.the-variants as read
+
+-- ---- book B
 
 -- "codes 10, 20; staff 101, 102, 103, 104 with holdings 3, 1, 2, 3; policies (3; 1,2,2), (3; 2,2,2), (3; 0,3,1)"
 abbrev pub valuesB : Contents
@@ -42,47 +47,214 @@ b-bytes = refl
 pub b-long : length bookB ≡ 60
 b-long = refl
 
-pub b-good : readOf bookB ≡ read.Good (record { permissions = 0; rows = 5; policies = 38 })
-unfolding number fieldsAt countLook entryLook inTurn sectionLooks past firstFault readOf policyRuling
-b-good = refl
+-- ---- how the table is written
 
--- "B with one byte added prints `bad 19 60`"
-pub b-and-more : readOf (bookB ++ (0 ∷ [])) ≡ read.Refused fault.Excess 60
-unfolding number fieldsAt countLook entryLook inTurn sectionLooks past firstFault readOf policyRuling
-b-and-more = refl
+-- what is told of a book: good, with where its rows and its policies start, or the number and the place of its first fault
+pub data Outcome : Type 0 where
+  good : (rows policies : ℕ) → Outcome
+  bad : (number place : ℕ) → Outcome
 
--- "no input prints `bad 11 0`"
-pub empty : readOf [] ≡ read.Refused fault.Short 0
-unfolding number fieldsAt countLook entryLook inTurn sectionLooks past firstFault readOf policyRuling
-empty = refl
+abbrev pub outcome : Reading → Outcome
+outcome (read.Good starts) = good (starts .rows) (starts .policies)
+outcome (read.Refused fault place) = bad (faultNumber fault) place
 
--- ---- places and the order of faults
+-- the bytes of a row, and of a policy, whose numbers are below 256
+abbrev pub person : ℕ → ℕ → List ℕ
+person staff holdings = staff ∷ 0 ∷ 0 ∷ 0 ∷ holdings ∷ 0 ∷ 0 ∷ 0 ∷ []
 
--- the second staff number as the first, and a holding past the two permissions: both at their row
-pub b-same-staff : readOf (set bookB 14 101) ≡ read.Refused fault.Staff 14
-unfolding number fieldsAt countLook entryLook inTurn sectionLooks past firstFault readOf policyRuling
-b-same-staff = refl
+abbrev pub asks : ℕ → ℕ → ℕ → ℕ → List ℕ
+asks P s d t = P ∷ 0 ∷ 0 ∷ 0 ∷ s ∷ d ∷ t ∷ []
 
-pub b-unlisted : readOf (set bookB 18 4) ≡ read.Refused fault.Holdings 14
-unfolding number fieldsAt countLook entryLook inTurn sectionLooks past firstFault readOf policyRuling
-b-unlisted = refl
+-- a section of these entries
+abbrev pub listing : List (List ℕ) → List ℕ
+listing l = length l ∷ foldr _++_ [] l
 
--- a cut row is 11, whatever its whole fields hold
-pub b-cut-row : readOf (take 21 (set bookB 14 101)) ≡ read.Refused fault.Short 14
-unfolding number fieldsAt countLook entryLook inTurn sectionLooks past firstFault readOf policyRuling
-b-cut-row = refl
+-- a book of the permissions 10 and 20, with these rows and policies
+abbrev pub two : List (List ℕ) → List (List ℕ) → List ℕ
+two rows policies = 2 ∷ 10 ∷ 0 ∷ 20 ∷ 0 ∷ (listing rows ++ listing policies)
 
--- a row that is not there is looked for where its first byte would be, after the rows that are
-pub b-missing-row : readOf (take 22 (set bookB 5 64)) ≡ read.Refused fault.Short 22
-unfolding number fieldsAt countLook entryLook inTurn sectionLooks past firstFault readOf policyRuling
-b-missing-row = refl
+-- the permissions 0, 1, 2, .., so many
+abbrev pub codesTo : ℕ → List ℕ
+codesTo n = listing (tabulate n (λ code. code ∷ 0 ∷ []))
 
--- a first byte of 200 is a count out of range
-pub count-200 : readOf (200 ∷ []) ≡ read.Refused fault.Permissions 0
-unfolding number fieldsAt countLook entryLook inTurn sectionLooks past firstFault readOf policyRuling
-count-200 = refl
+-- one row and one policy
+abbrev pub little : List ℕ
+little = two (person 1 3 ∷ []) (asks 1 0 1 1 ∷ [])
 
--- zero is an ordinary first code and staff number
-pub zeros : readOf (1 ∷ 0 ∷ 0 ∷ 1 ∷ 0 ∷ 0 ∷ 0 ∷ 0 ∷ 0 ∷ 0 ∷ 0 ∷ 0 ∷ 0 ∷ []) ≡ read.Good (record { permissions = 0; rows = 3; policies = 12 })
-unfolding number fieldsAt countLook entryLook inTurn sectionLooks past firstFault readOf policyRuling
-zeros = refl
+-- ---- the table
+
+-- counts at both ends: 1 to 32 permissions, 0 to 64 rows, 0 to 32 policies. A count that may stand is seen by the first entry that is missing
+abbrev pub countCases : List (List ℕ × Outcome)
+countCases =
+    ([], bad 11 0)
+    ∷ (0 ∷ [], bad 12 0)
+    ∷ (33 ∷ [], bad 12 0)
+    ∷ (200 ∷ [], bad 12 0)
+    ∷ (255 ∷ [], bad 12 0)
+    -- the least book: one permission, nobody, nothing asked
+    ∷ (1 ∷ 0 ∷ 0 ∷ 0 ∷ 0 ∷ [], good 3 4)
+    -- 32 permissions that are there, and 32 that are not
+    ∷ (codesTo 32 ++ (0 ∷ 0 ∷ []), good 65 66)
+    ∷ (32 ∷ [], bad 11 1)
+    ∷ (codesTo 1 ++ (64 ∷ []), bad 11 4)
+    ∷ (codesTo 1 ++ (65 ∷ []), bad 14 3)
+    ∷ (codesTo 1 ++ (255 ∷ []), bad 14 3)
+    ∷ (codesTo 1 ++ (0 ∷ 32 ∷ []), bad 11 5)
+    ∷ (codesTo 1 ++ (0 ∷ 33 ∷ []), bad 17 4)
+    ∷ (codesTo 1 ++ (0 ∷ 255 ∷ []), bad 17 4)
+    ∷ []
+
+-- codes: 0 may be the first; then they ascend, by both bytes
+abbrev pub codeCases : List (List ℕ × Outcome)
+codeCases =
+    (2 ∷ 0 ∷ 0 ∷ 1 ∷ 0 ∷ 0 ∷ 0 ∷ [], good 5 6)
+    ∷ (2 ∷ 0 ∷ 0 ∷ 0 ∷ 0 ∷ 0 ∷ 0 ∷ [], bad 13 3)
+    ∷ (2 ∷ 255 ∷ 0 ∷ 0 ∷ 1 ∷ 0 ∷ 0 ∷ [], good 5 6)
+    ∷ (2 ∷ 0 ∷ 1 ∷ 255 ∷ 0 ∷ 0 ∷ 0 ∷ [], bad 13 3)
+    ∷ (3 ∷ 1 ∷ 0 ∷ 2 ∷ 0 ∷ 2 ∷ 0 ∷ 0 ∷ 0 ∷ [], bad 13 5)
+    ∷ []
+
+-- rows: 0 may be the first staff number; then they ascend, by all four bytes; holdings within the two permissions
+abbrev pub rowCases : List (List ℕ × Outcome)
+rowCases =
+    (two (person 0 0 ∷ []) [], good 5 14)
+    ∷ (two (person 0 0 ∷ person 0 0 ∷ []) [], bad 15 14)
+    ∷ (two (person 0 0 ∷ person 1 3 ∷ []) [], good 5 22)
+    ∷ (two ((255 ∷ 255 ∷ 255 ∷ 0 ∷ 0 ∷ 0 ∷ 0 ∷ 0 ∷ []) ∷ (0 ∷ 0 ∷ 0 ∷ 1 ∷ 0 ∷ 0 ∷ 0 ∷ 0 ∷ []) ∷ []) [], good 5 22)
+    ∷ (two ((0 ∷ 0 ∷ 0 ∷ 1 ∷ 0 ∷ 0 ∷ 0 ∷ 0 ∷ []) ∷ (255 ∷ 255 ∷ 255 ∷ 0 ∷ 0 ∷ 0 ∷ 0 ∷ 0 ∷ []) ∷ []) [], bad 15 14)
+    ∷ (two (person 1 0 ∷ (255 ∷ 255 ∷ 255 ∷ 255 ∷ 3 ∷ 0 ∷ 0 ∷ 0 ∷ []) ∷ []) [], good 5 22)
+    ∷ (two (person 1 4 ∷ []) [], bad 16 6)
+    ∷ (two (person 1 3 ∷ person 2 1 ∷ person 3 4 ∷ []) [], bad 16 22)
+    ∷ (two ((1 ∷ 0 ∷ 0 ∷ 0 ∷ 0 ∷ 0 ∷ 0 ∷ 128 ∷ []) ∷ []) [], bad 16 6)
+    -- 31 permissions, and a row that holds the thirty-second; 32, and it may
+    ∷ (codesTo 31 ++ (1 ∷ 1 ∷ 0 ∷ 0 ∷ 0 ∷ 0 ∷ 0 ∷ 0 ∷ 128 ∷ 0 ∷ []), bad 16 64)
+    ∷ (codesTo 31 ++ (1 ∷ 1 ∷ 0 ∷ 0 ∷ 0 ∷ 0 ∷ 0 ∷ 0 ∷ 64 ∷ 0 ∷ []), good 63 72)
+    ∷ (codesTo 32 ++ (1 ∷ 1 ∷ 0 ∷ 0 ∷ 0 ∷ 0 ∷ 0 ∷ 0 ∷ 128 ∷ 0 ∷ []), good 65 74)
+    -- 9 permissions: the ninth is the first bit of the second byte
+    ∷ (codesTo 9 ++ (1 ∷ 1 ∷ 0 ∷ 0 ∷ 0 ∷ 0 ∷ 1 ∷ 0 ∷ 0 ∷ 0 ∷ []), good 19 28)
+    ∷ (codesTo 9 ++ (1 ∷ 1 ∷ 0 ∷ 0 ∷ 0 ∷ 0 ∷ 2 ∷ 0 ∷ 0 ∷ 0 ∷ []), bad 16 20)
+    ∷ []
+
+-- policies: P within the two permissions and not zero, s to 64, d from 1 to 8, t from 1 to 64
+abbrev pub policyCases : List (List ℕ × Outcome)
+policyCases =
+    (two [] (asks 3 0 1 1 ∷ []), good 5 6)
+    ∷ (two [] (asks 4 0 1 1 ∷ []), bad 18 7)
+    ∷ (two [] (asks 0 0 1 1 ∷ []), bad 2 7)
+    ∷ (two [] (asks 1 64 1 1 ∷ []), good 5 6)
+    ∷ (two [] (asks 1 65 1 1 ∷ []), bad 3 7)
+    ∷ (two [] (asks 1 255 1 1 ∷ []), bad 3 7)
+    ∷ (two [] (asks 1 0 0 1 ∷ []), bad 4 7)
+    ∷ (two [] (asks 1 0 8 1 ∷ []), good 5 6)
+    ∷ (two [] (asks 1 0 9 1 ∷ []), bad 4 7)
+    ∷ (two [] (asks 1 0 1 0 ∷ []), bad 5 7)
+    ∷ (two [] (asks 1 0 1 64 ∷ []), good 5 6)
+    ∷ (two [] (asks 1 0 1 65 ∷ []), bad 5 7)
+    -- 31 permissions, and a task of the thirty-second; 32, and it may
+    ∷ (codesTo 31 ++ (0 ∷ 1 ∷ 0 ∷ 0 ∷ 0 ∷ 128 ∷ 0 ∷ 1 ∷ 1 ∷ []), bad 18 65)
+    ∷ (codesTo 32 ++ (0 ∷ 1 ∷ 0 ∷ 0 ∷ 0 ∷ 128 ∷ 0 ∷ 1 ∷ 1 ∷ []), good 65 66)
+    ∷ (codesTo 9 ++ (0 ∷ 1 ∷ 0 ∷ 1 ∷ 0 ∷ 0 ∷ 0 ∷ 1 ∷ 1 ∷ []), good 19 20)
+    ∷ (codesTo 9 ++ (0 ∷ 1 ∷ 0 ∷ 2 ∷ 0 ∷ 0 ∷ 0 ∷ 1 ∷ 1 ∷ []), bad 18 21)
+    ∷ []
+
+-- two and three faults of one entry: 11 before all, 15 before 16, 18 before 2 to 5, 2 before 3 before 4 before 5
+abbrev pub faultsTogether : List (List ℕ × Outcome)
+faultsTogether =
+    (two (person 1 3 ∷ person 1 4 ∷ []) [], bad 15 14)
+    ∷ (two [] (asks 4 65 0 0 ∷ []), bad 18 7)
+    ∷ (two [] (asks 4 65 1 1 ∷ []), bad 18 7)
+    ∷ (two [] (asks 4 0 9 1 ∷ []), bad 18 7)
+    ∷ (two [] (asks 4 0 1 65 ∷ []), bad 18 7)
+    ∷ (two [] (asks 0 65 0 0 ∷ []), bad 2 7)
+    ∷ (two [] (asks 0 65 1 1 ∷ []), bad 2 7)
+    ∷ (two [] (asks 0 0 9 1 ∷ []), bad 2 7)
+    ∷ (two [] (asks 0 0 1 65 ∷ []), bad 2 7)
+    ∷ (two [] (asks 1 65 0 0 ∷ []), bad 3 7)
+    ∷ (two [] (asks 1 65 9 1 ∷ []), bad 3 7)
+    ∷ (two [] (asks 1 65 1 65 ∷ []), bad 3 7)
+    ∷ (two [] (asks 1 0 0 0 ∷ []), bad 4 7)
+    ∷ (two [] (asks 1 0 9 65 ∷ []), bad 4 7)
+    -- cut: a code, a row, a policy, at fault in what there is of them
+    ∷ (take 4 (2 ∷ 10 ∷ 0 ∷ 10 ∷ 0 ∷ []), bad 11 3)
+    ∷ (take 21 (two (person 1 3 ∷ person 1 4 ∷ []) []), bad 11 14)
+    ∷ (take 18 (two (person 1 3 ∷ person 1 4 ∷ []) []), bad 11 14)
+    ∷ (take 13 (two [] (asks 4 65 0 0 ∷ [])), bad 11 7)
+    ∷ (take 13 (two [] (asks 0 65 0 0 ∷ [])), bad 11 7)
+    ∷ (take 13 (two [] (asks 1 65 0 0 ∷ [])), bad 11 7)
+    ∷ []
+
+-- faults in two places: the earlier is told
+abbrev pub faultsApart : List (List ℕ × Outcome)
+faultsApart =
+    (0 ∷ 10 ∷ 0 ∷ [], bad 12 0)
+    ∷ (33 ∷ 10 ∷ 0 ∷ 10 ∷ 0 ∷ [], bad 12 0)
+    ∷ (2 ∷ 10 ∷ 0 ∷ 10 ∷ 0 ∷ 65 ∷ [], bad 13 3)
+    ∷ (2 ∷ 10 ∷ 0 ∷ 10 ∷ 0 ∷ [], bad 13 3)
+    ∷ (2 ∷ 10 ∷ 0 ∷ 20 ∷ 0 ∷ 65 ∷ 1 ∷ 0 ∷ 0 ∷ 0 ∷ 4 ∷ 0 ∷ 0 ∷ 0 ∷ [], bad 14 5)
+    ∷ (two (person 1 4 ∷ person 1 3 ∷ []) [], bad 16 6)
+    ∷ (two (person 1 3 ∷ person 1 3 ∷ person 2 4 ∷ []) [], bad 15 14)
+    ∷ (two (person 1 3 ∷ person 2 4 ∷ person 2 3 ∷ []) [], bad 16 14)
+    ∷ (take 22 (two (person 1 3 ∷ person 2 4 ∷ []) []) ++ (33 ∷ []), bad 16 14)
+    ∷ (take 22 (two (person 1 3 ∷ person 1 3 ∷ []) []) ++ (33 ∷ []), bad 15 14)
+    ∷ (2 ∷ 10 ∷ 0 ∷ 20 ∷ 0 ∷ 0 ∷ 33 ∷ 4 ∷ 0 ∷ 0 ∷ 0 ∷ 65 ∷ 0 ∷ 0 ∷ [], bad 17 6)
+    ∷ (two [] (asks 1 0 1 0 ∷ asks 4 0 1 1 ∷ []), bad 5 7)
+    ∷ (two [] (asks 1 0 1 1 ∷ asks 4 0 1 0 ∷ []), bad 18 14)
+    ∷ (two [] (asks 1 0 9 1 ∷ asks 1 65 1 1 ∷ []), bad 4 7)
+    ∷ (two [] (asks 1 0 1 1 ∷ asks 0 0 1 1 ∷ asks 1 65 1 1 ∷ []), bad 2 14)
+    ∷ (take 21 (two [] (asks 1 65 1 1 ∷ asks 1 0 1 1 ∷ [])), bad 3 7)
+    ∷ (two [] (asks 4 0 1 1 ∷ []) ++ (0 ∷ []), bad 18 7)
+    ∷ (two [] (asks 1 0 1 65 ∷ []) ++ (0 ∷ []), bad 5 7)
+    ∷ []
+
+-- a book of two permissions, one row and one policy, whole, cut around each count and entry, and with bytes after it
+abbrev pub cutCases : List (List ℕ × Outcome)
+cutCases =
+    (little, good 5 14)
+    ∷ (take 1 little, bad 11 1)
+    ∷ (take 2 little, bad 11 1)
+    ∷ (take 3 little, bad 11 3)
+    ∷ (take 4 little, bad 11 3)
+    ∷ (take 5 little, bad 11 5)
+    ∷ (take 6 little, bad 11 6)
+    ∷ (take 13 little, bad 11 6)
+    ∷ (take 14 little, bad 11 14)
+    ∷ (take 15 little, bad 11 15)
+    ∷ (take 21 little, bad 11 15)
+    ∷ (little ++ (0 ∷ []), bad 19 22)
+    ∷ (little ++ (7 ∷ 7 ∷ []), bad 19 22)
+    ∷ (1 ∷ 0 ∷ 0 ∷ 0 ∷ 0 ∷ [] ++ (0 ∷ []), bad 19 5)
+    ∷ []
+
+-- book B: with one byte more, with a byte changed, cut in a row that is at fault, and with rows that are not there
+abbrev pub casesOfB : List (List ℕ × Outcome)
+casesOfB =
+    (bookB, good 5 38)
+    ∷ (bookB ++ (0 ∷ []), bad 19 60)
+    ∷ (set bookB 0 0, bad 12 0)
+    ∷ (set bookB 0 33, bad 12 0)
+    ∷ (set bookB 3 10, bad 13 3)
+    ∷ (set bookB 5 65, bad 14 5)
+    ∷ (set bookB 14 101, bad 15 14)
+    ∷ (set bookB 18 4, bad 16 14)
+    ∷ (set bookB 38 33, bad 17 38)
+    ∷ (set bookB 39 4, bad 18 39)
+    ∷ (set bookB 39 0, bad 2 39)
+    ∷ (set bookB 43 65, bad 3 39)
+    ∷ (set bookB 44 0, bad 4 39)
+    ∷ (set bookB 45 65, bad 5 39)
+    ∷ (set bookB 59 65, bad 5 53)
+    ∷ (set (set bookB 14 101) 18 4, bad 15 14)
+    ∷ (take 21 (set bookB 14 101), bad 11 14)
+    ∷ (take 22 (set bookB 5 64), bad 11 22)
+    ∷ (take 59 bookB, bad 11 53)
+    ∷ []
+
+abbrev pub cases : List (List ℕ × Outcome)
+cases = countCases ++ codeCases ++ rowCases ++ policyCases ++ faultsTogether ++ faultsApart ++ cutCases ++ casesOfB
+
+-- ---- the fact
+
+-- what is told of each book is what the table says
+pub cases-told : map (λ (c : List ℕ × Outcome). outcome (readOf (c .0))) cases ≡ map (λ (c : List ℕ × Outcome). c .1) cases
+unfolding tabulate number fieldsAt countLook entryLook inTurn sectionLooks past firstFault readOf policyRuling
+cases-told = refl

@@ -1,5 +1,6 @@
--- 01, "The roster book": the number of each fault. Nothing here is proved: these are definitions.
-use Prim.Native.Nat.{ℕ}
+-- 01, "The roster book": the number of each fault, and which numbers a book is refused with. Nothing here is proved: these are definitions.
+use mathlib.Core.Logic.{_⊎_}
+use Prim.Native.Nat.{ℕ, _≤_}
 use Rattle.roster.specs.Refusals.{numberOf}
 use Rattle.book.specs.declared.Fault.{Fault}
 use Rattle.book.specs.declared.Fault.the-variants.{Short, Permissions, Code, Rows, Staff, Holdings, Policies, Task, Policy, Excess}
@@ -18,3 +19,7 @@ faultNumber Policies = 17
 faultNumber Task = 18
 faultNumber (Policy refusal) = numberOf refusal
 faultNumber Excess = 19
+
+-- a number that a book is refused with: one of 2 to 5 or of 11 to 19. (1 and 6 are of questions: a fault can say them, no book has them.)
+abbrev pub BookNumber : ℕ → Type 0
+BookNumber n = ((2 ≤ n) × (n ≤ 5)) ⊎ ((11 ≤ n) × (n ≤ 19))

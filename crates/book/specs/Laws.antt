@@ -1,9 +1,13 @@
+-- what is promised
+pub mod Books
+pub mod Refused
+pub mod Parts
+pub mod View
+pub mod Longest
+pub mod Prefix
+-- what that stands on
 pub mod First
 pub mod Codec
 pub mod Sections
 pub mod Values
-pub mod Books
-pub mod Longest
-pub mod Prefix
 pub mod Places
-pub mod Parts

@@ -5,9 +5,10 @@ use mathlib.Core.List.{List, [], _∷_, _++_}
 use Prim.Native.Nat.{ℕ, zero, suc, _/_, _%_, _^_, _≤_, _<_}
 use lib.ListN.{length}
 use Rattle.roster.specs.Limits.{rowLimit}
-use Rattle.roster.specs.Refusals.{policyRuling}
+use Rattle.roster.specs.Refusals.{ownRuling}
 use Rattle.roster.specs.declared.Ruling.the-variants as ruling
 use Rattle.roster.specs.declared.Policy.{Policy}
+use Rattle.book.specs.declared.Row.{Row}
 
 -- "Permissions, 1 to 32"
 abbrev pub permissionLimit : ℕ
@@ -28,11 +29,6 @@ rowWidths = 4 ∷ 4 ∷ []
 -- "4-byte P, then s, d, t in a byte each"
 abbrev pub policyWidths : List ℕ
 policyWidths = 4 ∷ 1 ∷ 1 ∷ 1 ∷ []
-
--- a row of the book
-pub record Row : Type 0 where
-  pub staff : ℕ
-  pub holdings : ℕ
 
 -- the values of a book: "The i-th code is bit i."
 pub record Contents : Type 0 where
@@ -94,7 +90,7 @@ Ascends key (x ∷ l) = Below key x l × Ascends key l
 -- What a policy of the book may be: P within the listed permissions, and none of the faults 2, 3, 4, 5.
 pub record PolicyFits (listed : ℕ) (p : Policy) : Type 0 where
   pub task : p .task < 2 ^ listed
-  pub sound : policyRuling 0 (p .task) (p .away) (p .crews) (p .size) ≡ ruling.Admitted
+  pub sound : ownRuling p ≡ ruling.Admitted
 
 -- Which values a book may have, a field for each rule.
 pub record Admitted (v : Contents) : Type 0 where

@@ -1,8 +1,12 @@
+-- what a book is, what is told of it, what its parts are, and what is promised
 pub mod Layout
 pub mod Faults
 pub mod Reading
-pub mod Steps
 pub mod Parts
-pub mod Cases
 pub mod Promises
+-- examples, computed
+pub mod Cases
+-- the theorems
 pub mod Laws
+-- what the reader's own functions answer
+pub mod Steps

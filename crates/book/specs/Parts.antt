@@ -3,13 +3,14 @@
 use mathlib.Core.Bool.{true, false}
 use mathlib.Core.List.{List, [], _∷_}
 use Prim.Native.Nat.{ℕ, zero, suc, _+_, _*_}
+use denote.Ref.{now}
 use lib.Dec.{leb, ltb}
 use lib.ListN.{length}
 use Rattle.sets.specs.Arrays.{tabulate}
 use Rattle.roster.specs.Limits.{rowLimit}
-use Rattle.roster.specs.Refusals.{madeOf}
+use Rattle.roster.specs.Refusals.{made}
 use Rattle.roster.specs.declared.Made.{Made}
-use Rattle.roster.specs.declared.Made.the-variants as made
+use Rattle.roster.specs.declared.Made.the-variants as variants
 use Rattle.roster.specs.declared.Policy.{Policy}
 use Rattle.roster.specs.declared.Table.{Table}
 use Rattle.book.specs.Layout.{Contents}
@@ -19,10 +20,9 @@ use Rattle.book.specs.declared.Reading.the-variants.{Good, Refused}
 use Rattle.book.specs.declared.Starts.{Starts}
 use Rattle.book.specs.declared.Place.{Place}
 use Rattle.book.specs.declared.Place.the-variants as place
-use Rattle.book.specs.declared.Staff.{Staff}
-use Rattle.book.specs.declared.Staff.the-variants as staff
-use Rattle.book.specs.declared.Holdings.{Holdings}
-use Rattle.book.specs.declared.Holdings.the-variants as holdings
+use Rattle.book.specs.declared.Seen.{Seen}
+use Rattle.book.specs.declared.Seen.the-variants as seen
+use Rattle.book.specs.declared.Book.{Book}
 use Rattle.book.specs.declared.Listed.{Listed}
 use Rattle.book.specs.declared.Listed.the-variants as listed
 
@@ -64,32 +64,39 @@ placeOf wide book start i =
       | false ↦ elim (ltb (length book) (at + wide)) [ true ↦ place.Nothing | false ↦ place.At at ]
     ]
 
--- "a view over it answers staff number and holdings by row; past the last row it answers "no such row""
-abbrev pub staffFrom : List ℕ → Place → Staff
-staffFrom book (place.At at) = staff.Number (entryAt rows book at .staff)
-staffFrom book place.Nothing = staff.NoSuchRow
+-- ---- its rows
 
-abbrev pub staffAt : List ℕ → ℕ → ℕ → Staff
-staffAt book start row = staffFrom book (placeOf (width rows) book start row)
+-- "staff number and holdings by row; past the last row it answers "no such row""
+abbrev pub rowFrom : List ℕ → Place → Seen
+rowFrom book (place.At at) = seen.Row (entryAt rows book at)
+rowFrom book place.Nothing = seen.NoSuchRow
 
-abbrev pub holdingsFrom : List ℕ → Place → Holdings
-holdingsFrom book (place.At at) = holdings.Held (entryAt rows book at .holdings)
-holdingsFrom book place.Nothing = holdings.NoSuchRow
+-- a row of a book whose sections start here: where it stands, and what it is
+abbrev pub rowPlace : List ℕ → Starts → ℕ → Place
+rowPlace book starts row = placeOf (width rows) book (starts .rows) row
 
-abbrev pub holdingsAt : List ℕ → ℕ → ℕ → Holdings
-holdingsAt book start row = holdingsFrom book (placeOf (width rows) book start row)
+abbrev pub rowAt : List ℕ → Starts → ℕ → Seen
+rowAt book starts row = rowFrom book (rowPlace book starts row)
+
+-- a row of a book
+abbrev pub rowByNumber : List ℕ → ℕ → Seen
+rowByNumber book row = rowAt book (startsIn book) row
+
+-- "a view over it answers staff number and holdings by row"
+abbrev pub rowOf : Book → ℕ → Seen
+rowOf view row = rowAt (now (view .bytes)) (view .starts) row
 
 -- ---- the table and the policies
 
 -- a row that is not there holds nothing
-abbrev pub heldOr0 : Holdings → ℕ
-heldOr0 (holdings.Held held) = held
-heldOr0 holdings.NoSuchRow = 0
+abbrev pub heldOr0 : Seen → ℕ
+heldOr0 (seen.Row row) = row .holdings
+heldOr0 seen.NoSuchRow = 0
 
 -- "The table is one value that carries all 64 holdings and its row count"
 unfoldable pub tableOf : List ℕ → Table
 tableOf book = record {
-  holdings = tabulate rowLimit (λ row. heldOr0 (holdingsAt book (startsIn book .rows) row));
+  holdings = tabulate rowLimit (λ row. heldOr0 (rowByNumber book row));
   rows = countAt book (startsIn book .rows);
 }
 
@@ -97,13 +104,11 @@ unfoldable pub policyCount : List ℕ → ℕ
 policyCount book = countAt book (startsIn book .policies)
 
 abbrev pub listedBy : Made → Listed
-listedBy (made.Policy p) = listed.Policy p
-listedBy (made.Refused refusal) = listed.NoSuchPolicy
+listedBy (variants.Policy p) = listed.Policy p
+listedBy (variants.Refused refusal) = listed.NoSuchPolicy
 
 abbrev pub policyFrom : List ℕ → Place → Listed
-policyFrom book (place.At at) =
-    let p = entryAt policies book at in
-    listedBy (madeOf (p .task) (p .away) (p .crews) (p .size))
+policyFrom book (place.At at) = listedBy (made (entryAt policies book at))
 policyFrom book place.Nothing = listed.NoSuchPolicy
 
 -- the i-th policy of the section that starts here

@@ -5,22 +5,23 @@ use mathlib.Core.Option.{Option, some, none}
 use mathlib.Core.List.{List, [], _∷_, _++_}
 use Prim.Native.Nat.{ℕ, _<_}
 use lib.ListN.{length, getD, getElem?}
+use denote.Ref.{RefT, now}
 use Rattle.sets.specs.Arrays.{tabulate}
 use Rattle.roster.specs.Limits.{rowLimit}
 use Rattle.roster.specs.declared.Policy.{Policy}
 use Rattle.roster.specs.declared.Table.{Table}
-use Rattle.book.specs.Layout.{Contents, Row, Each, LayoutOf, section, codeWidths, codeFields, rowWidths, rowFields}
+use Rattle.book.specs.Layout.{Contents, Each, LayoutOf, section, codeWidths, codeFields, rowWidths, rowFields}
 use Rattle.book.specs.Reading.{Found, looks}
-use Rattle.book.specs.Parts.{startsIn, staffAt, holdingsAt, heldOr0, tableOf, policyCount, policyAt}
+use Rattle.book.specs.Parts.{startsIn, rowByNumber, heldOr0, tableOf, policyCount, policyAt}
 use Rattle.book.specs.declared.Fault.{Fault}
 use Rattle.book.specs.declared.Look.the-variants.{Sound, Faulty}
 use Rattle.book.specs.declared.Reading.{Reading}
 use Rattle.book.specs.declared.Reading.the-variants as read
 use Rattle.book.specs.declared.Starts.{Starts}
-use Rattle.book.specs.declared.Staff.{Staff}
-use Rattle.book.specs.declared.Staff.the-variants as staff
-use Rattle.book.specs.declared.Holdings.{Holdings}
-use Rattle.book.specs.declared.Holdings.the-variants as holdings
+use Rattle.book.specs.declared.Row.{Row}
+use Rattle.book.specs.declared.Seen.{Seen}
+use Rattle.book.specs.declared.Seen.the-variants as seen
+use Rattle.book.specs.declared.Book.{Book}
 use Rattle.book.specs.declared.Listed.{Listed}
 use Rattle.book.specs.declared.Listed.the-variants as listed
 
@@ -55,13 +56,9 @@ pub record Allows (book : List ℕ) (r : Reading) : Type 0 where
 -- ---- the parts of a book
 
 -- what is answered of a row, and of a policy, that is there or not
-abbrev pub staffBy : Option Row → Staff
-staffBy none = staff.NoSuchRow
-staffBy (some row) = staff.Number (row .staff)
-
-abbrev pub holdingsBy : Option Row → Holdings
-holdingsBy none = holdings.NoSuchRow
-holdingsBy (some row) = holdings.Held (row .holdings)
+abbrev pub rowBy : Option Row → Seen
+rowBy none = seen.NoSuchRow
+rowBy (some row) = seen.Row row
 
 abbrev pub policyBy : Option Policy → Listed
 policyBy none = listed.NoSuchPolicy
@@ -70,7 +67,7 @@ policyBy (some p) = listed.Policy p
 -- the table of these values: a row's holdings, and 0 past the last
 abbrev pub tableFor : Contents → Table
 tableFor v = record {
-  holdings = tabulate rowLimit (λ row. heldOr0 (holdingsBy (getElem? (v .rows) row)));
+  holdings = tabulate rowLimit (λ row. heldOr0 (rowBy (getElem? (v .rows) row)));
   rows = length (v .rows);
 }
 
@@ -79,9 +76,15 @@ pub record PartsOf (v : Contents) (book : List ℕ) : Type 0 where
   pub table : tableOf book ≡ tableFor v
   pub policies : policyCount book ≡ length (v .policies)
   pub policy : (i : ℕ) → policyAt book i ≡ policyBy (getElem? (v .policies) i)
-  pub staff : (row : ℕ) → staffAt book (startsIn book .rows) row ≡ staffBy (getElem? (v .rows) row)
-  pub holdings : (row : ℕ) → holdingsAt book (startsIn book .rows) row ≡ holdingsBy (getElem? (v .rows) row)
+  pub row : (i : ℕ) → rowByNumber book i ≡ rowBy (getElem? (v .rows) i)
 
 -- what a refused book is taken to have
 abbrev pub nothing : Contents
 nothing = record { codes = []; rows = []; policies = [] }
+
+-- ---- the view
+
+-- what may be answered to one who wants a view of these bytes: the bytes that were lent, and where their sections are taken to start
+pub record ViewOf (bytes : RefT (List ℕ)) (view : Book) : Type 0 where
+  pub lent : view .bytes ≡ bytes
+  pub starts : view .starts ≡ startsIn (now bytes)

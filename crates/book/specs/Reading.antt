@@ -8,11 +8,12 @@ use Prim.Native.Nat.{ℕ, zero, suc, _+_, _*_, _^_}
 use lib.Dec.{leb, ltb}
 use lib.ListN.{length, getD}
 use Rattle.roster.specs.Limits.{rowLimit}
-use Rattle.roster.specs.Refusals.{outside, madeOf}
+use Rattle.roster.specs.Refusals.{outside, made}
 use Rattle.roster.specs.declared.Made.{Made}
-use Rattle.roster.specs.declared.Made.the-variants as made
+use Rattle.roster.specs.declared.Made.the-variants as variants
 use Rattle.roster.specs.declared.Policy.{Policy}
-use Rattle.book.specs.Layout.{Row, codeWidths, rowWidths, policyWidths, permissionLimit, policyLimit}
+use Rattle.book.specs.Layout.{codeWidths, rowWidths, policyWidths, permissionLimit, policyLimit}
+use Rattle.book.specs.declared.Row.{Row}
 use Rattle.book.specs.declared.Fault.{Fault}
 use Rattle.book.specs.declared.Fault.the-variants as fault
 use Rattle.book.specs.declared.Section.the-variants.{Permissions, Rows, Policies}
@@ -80,22 +81,23 @@ abbrev pub staffOf : Option Row → Option ℕ
 staffOf none = none
 staffOf (some row) = some (row .staff)
 
--- "**14** rows above 64"; "for a row **15** staff number not ascending, **16** a holding past the listed permissions"
+-- "for a row **15** staff number not ascending, **16** a holding past the listed permissions"
+abbrev pub rowLook : Bool → Bool → Look
+rowLook low beyond = faultIf low fault.Staff (faultIf beyond fault.Holdings Sound)
+
+-- "**14** rows above 64"
 abbrev pub rows : Kind Row
 rows = record {
   widths = rowWidths;
   value = λ f. record { staff = getD f 0 0; holdings = getD f 1 0 };
   outOfRange = ltb rowLimit;
   countFault = fault.Rows;
-  faults = λ listed before row.
-      faultIf (notAbove (staffOf before) (row .staff)) fault.Staff
-      (faultIf (pastListed listed (row .holdings)) fault.Holdings
-      Sound);
+  faults = λ listed before row. rowLook (notAbove (staffOf before) (row .staff)) (pastListed listed (row .holdings));
 }
 
 abbrev pub byMade : Made → Look
-byMade (made.Policy p) = Sound
-byMade (made.Refused refusal) = Faulty (fault.Policy refusal)
+byMade (variants.Policy p) = Sound
+byMade (variants.Refused refusal) = Faulty (fault.Policy refusal)
 
 -- "**17** policies above 32"; "for a policy **18** P past the listed permissions, then 2, 3, 4, 5 as above"
 abbrev pub policies : Kind Policy
@@ -106,7 +108,7 @@ policies = record {
   countFault = fault.Policies;
   faults = λ listed before p.
       faultIf (pastListed listed (p .task)) fault.Task
-      (byMade (madeOf (p .task) (p .away) (p .crews) (p .size)));
+      (byMade (made p));
 }
 
 -- ---- a section

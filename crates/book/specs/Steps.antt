@@ -3,10 +3,9 @@
 use mathlib.Core.Bool.{Bool}
 use mathlib.Core.List.{List}
 use Prim.Native.Nat.{ℕ, _+_, _*_}
-use lib.ListN.{getD}
-use Rattle.roster.specs.Refusals.{madeOf}
+use Rattle.roster.specs.Refusals.{made}
 use Rattle.roster.specs.declared.Made.{Made}
-use Rattle.book.specs.Reading.{number, Found, notAbove, prior, codes, rows, policies, width, faultIf, wholeThen, countAt, entryLook, inTurn, sectionLooks, past, looksFromPolicies, looksFromRows, firstFault}
+use Rattle.book.specs.Reading.{number, Found, notAbove, prior, codes, rows, policies, width, entryAt, faultIf, wholeThen, countAt, entryLook, inTurn, sectionLooks, past, looksFromPolicies, looksFromRows, firstFault}
 use Rattle.book.specs.declared.Section.{Section}
 use Rattle.book.specs.declared.Section.the-variants.{Permissions, Rows, Policies}
 use Rattle.book.specs.declared.Fault.{Fault}
@@ -50,9 +49,9 @@ countFaultIn Policies = policies .countFault
 abbrev pub countIn : Section → List ℕ → ℕ → Look
 countIn section book at = wholeThen book at 1 (faultIf (outIn section (countAt book at)) (countFaultIn section) Sound)
 
--- what the fields of a policy at this place make
+-- what the policy makes that stands here
 abbrev pub madeAt : List ℕ → ℕ → Made
-madeAt book at = madeOf (number 4 book at) (getD book (at + 4) 0) (getD book (at + 5) 0) (getD book (at + 6) 0)
+madeAt book at = made (entryAt policies book at)
 
 abbrev pub lookIn : Section → List ℕ → ℕ → Before → ℕ → Look
 lookIn Permissions = entryLook codes

@@ -18,7 +18,8 @@ ghost use Rattle.sets.specs.Arrays.{tabulate};
 ghost use Rattle.roster.specs.Limits.{rowLimit};
 ghost use Rattle.book.specs.Faults.{faultNumber};
 ghost use Rattle.book.specs.Reading.{readOf};
-ghost use Rattle.book.specs.Parts.{startsIn, placeOf, staffAt, holdingsAt, heldOr0, tableOf, policyCount, policyIn, policyAt};
+ghost use Rattle.book.specs.Parts.{startsIn, placeOf, rowAt, rowOf, rowByNumber, heldOr0, tableOf, policyCount, policyIn, policyAt};
+ghost use Rattle.book.specs.Promises.{ViewOf};
 ghost use Rattle.book.specs.Steps.{widthIn, readPolicies, readRows};
 
 // Permissions of a book at most; a row's holdings have a bit for each.
@@ -41,7 +42,7 @@ pub enum Fault {
 }
 
 // The sections, in their order.
-pub enum Section {
+enum Section {
     Permissions,
     Rows,
     Policies,
@@ -60,13 +61,13 @@ pub enum Before {
 }
 
 // Where the reader stands in a section.
-pub struct Cursor {
+struct Cursor {
     pub before: Before,
     pub at: usize,
 }
 
 // What reading a section comes to: the place past it, or its first fault with its place.
-pub enum Step {
+enum Step {
     Next(usize),
     Refused(Fault, usize),
 }
@@ -90,15 +91,15 @@ pub enum Place {
     Nothing,
 }
 
-// The staff number of a row.
-pub enum Staff {
-    Number(u32),
-    NoSuchRow,
+// A row of the book.
+pub struct Row {
+    pub staff: u32,
+    pub holdings: u32,
 }
 
-// The holdings of a row.
-pub enum Holdings {
-    Held(u32),
+// A row by its number.
+pub enum Seen {
+    Row(Row),
     NoSuchRow,
 }
 
@@ -202,46 +203,38 @@ fn place_of(book: &[u8], section: Section, start: usize, i: usize) -> Place
     Place::At(at)
 }
 
-// The staff number of a row of the section that starts here.
-pub fn staff_at(book: &[u8], start: usize, row: usize) -> Staff
-    ensures reply { λ r. ⌜ r ≡ staffAt (now (book .entry)) start row ⌝ }
+// A row of a book whose sections start here.
+pub fn row_at(book: &[u8], starts: Starts, row: usize) -> Seen
+    ensures reply { λ r. ⌜ r ≡ rowAt (now (book .entry)) starts row ⌝ }
     ensures kept { λ _. ⌜ now (book .exit) ≡ now (book .entry) ⌝ }
 {
-    match place_of(book, Section::Rows, start, row) {
-        Place::At(at) => Staff::Number(four(book, at)),
-        Place::Nothing => Staff::NoSuchRow,
-    }
-}
-
-// Its holdings.
-pub fn holdings_at(book: &[u8], start: usize, row: usize) -> Holdings
-    ensures reply { λ r. ⌜ r ≡ holdingsAt (now (book .entry)) start row ⌝ }
-    ensures kept { λ _. ⌜ now (book .exit) ≡ now (book .entry) ⌝ }
-{
-    match place_of(book, Section::Rows, start, row) {
-        Place::At(at) => Holdings::Held(four(book, at + 4)),
-        Place::Nothing => Holdings::NoSuchRow,
+    match place_of(book, Section::Rows, starts.rows, row) {
+        Place::At(at) => Seen::Row(Row {
+            staff: four(book, at),
+            holdings: four(book, at + 4),
+        }),
+        Place::Nothing => Seen::NoSuchRow,
     }
 }
 
 // A row that is not there holds nothing.
-fn held_at(book: &[u8], start: usize, row: usize) -> u32
-    ensures { λ r. ⌜ r ≡ heldOr0 (holdingsAt (now (book .entry)) start row) ⌝ }
+fn held_at(book: &[u8], starts: Starts, row: usize) -> u32
+    ensures { λ r. ⌜ r ≡ heldOr0 (rowAt (now (book .entry)) starts row) ⌝ }
 {
-    match holdings_at(book, start, row) {
-        Holdings::Held(held) => held,
-        Holdings::NoSuchRow => 0,
+    match row_at(book, starts, row) {
+        Seen::Row(seen) => seen.holdings,
+        Seen::NoSuchRow => 0,
     }
 }
 
 // The holdings of all rows.
-fn all_held(book: &[u8], start: usize) -> [u32; Policy::ROWS]
-    ensures { λ r. ⌜ r ≡ tabulate rowLimit (λ row. heldOr0 (holdingsAt (now (book .entry)) start row)) ⌝ }
+fn all_held(book: &[u8], starts: Starts) -> [u32; Policy::ROWS]
+    ensures { λ r. ⌜ r ≡ tabulate rowLimit (λ row. heldOr0 (rowAt (now (book .entry)) starts row)) ⌝ }
 {
     let mut held = [0u32; Policy::ROWS];
     let mut row = 0;
     while row < Policy::ROWS {
-        held[row] = held_at(book, start, row);
+        held[row] = held_at(book, starts, row);
         row += 1;
     }
     held
@@ -254,7 +247,7 @@ pub fn table_of(book: &[u8]) -> Table
 {
     let starts = starts_in(book);
     let rows = count_at(book, starts.rows);
-    let held = all_held(book, starts.rows);
+    let held = all_held(book, starts);
     Table {
         holdings: held,
         rows: rows,
@@ -303,7 +296,7 @@ pub struct Book<'a> {
 
 // Reads the book once.
 pub fn view<'a>(bytes: &'a [u8]) -> Book<'a>
-    ensures reply { λ r. ⌜ (r .bytes ≡ bytes .entry) × (r .starts ≡ startsIn (now (bytes .entry))) ⌝ }
+    ensures reply { λ r. ⌜ ViewOf (bytes .entry) r ⌝ }
     ensures kept { λ _. ⌜ now (bytes .exit) ≡ now (bytes .entry) ⌝ }
 {
     Book {
@@ -312,26 +305,18 @@ pub fn view<'a>(bytes: &'a [u8]) -> Book<'a>
     }
 }
 
-// The staff number of a row.
-pub fn staff_of<'a>(book: Book<'a>, row: usize) -> Staff
-    ensures reply { λ r. ⌜ r ≡ staffAt (now (book .entry .bytes)) (book .entry .starts .rows) row ⌝ }
+// A row of the book that is viewed.
+pub fn row_of<'a>(book: Book<'a>, row: usize) -> Seen
+    ensures reply { λ r. ⌜ r ≡ rowOf (book .entry) row ⌝ }
     ensures kept { λ _. ⌜ (book .exit ≡ book .entry) × (now (book .exit .bytes) ≡ now (book .entry .bytes)) ⌝ }
 {
-    staff_at(book.bytes, book.starts.rows, row)
+    row_at(book.bytes, book.starts, row)
 }
 
-// The holdings of a row.
-pub fn holdings_of<'a>(book: Book<'a>, row: usize) -> Holdings
-    ensures reply { λ r. ⌜ r ≡ holdingsAt (now (book .entry .bytes)) (book .entry .starts .rows) row ⌝ }
-    ensures kept { λ _. ⌜ (book .exit ≡ book .entry) × (now (book .exit .bytes) ≡ now (book .entry .bytes)) ⌝ }
-{
-    holdings_at(book.bytes, book.starts.rows, row)
-}
-
-// The staff number of a row of these bytes, for a caller that keeps no view.
-pub fn staff_by_row(bytes: &[u8], row: usize) -> Staff
-    ensures reply { λ r. ⌜ r ≡ staffAt (now (bytes .entry)) (startsIn (now (bytes .entry)) .rows) row ⌝ }
+// A row of these bytes, for a caller that keeps no view.
+pub fn row_by_number(bytes: &[u8], row: usize) -> Seen
+    ensures reply { λ r. ⌜ r ≡ rowByNumber (now (bytes .entry)) row ⌝ }
     ensures kept { λ _. ⌜ now (bytes .exit) ≡ now (bytes .entry) ⌝ }
 {
-    staff_of(view(bytes), row)
+    row_of(view(bytes), row)
 }

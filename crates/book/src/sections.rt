@@ -14,7 +14,7 @@ ghost use mathlib.Core.Path.{_≡_};
 ghost use Prim.Native.Nat.{_+_, _<_, _^_};
 ghost use lib.Dec.{ltb};
 ghost use lib.ListN.{length, getD};
-ghost use Rattle.book.specs.Reading.{number, pastListed, codes, rows, policies, entryLook};
+ghost use Rattle.book.specs.Reading.{number, pastListed, rowLook, codes, rows, policies, entryLook};
 ghost use Rattle.book.specs.Steps.{widthIn, leadIn, staysIn, outIn, countFaultIn, countIn, madeAt, lookIn, pastEntry, stepFrom, startAt, stepIn};
 
 // The widths of the entries, in bytes.
@@ -175,6 +175,19 @@ fn look_code(book: &[u8], cursor: Cursor) -> Look
     Look::Sound
 }
 
+// What is told of a whole row whose staff number does not ascend, or whose holdings go beyond the listed permissions.
+fn row_look(low: bool, beyond: bool) -> Look
+    ensures { λ r. ⌜ r ≡ rowLook low beyond ⌝ }
+{
+    if low {
+        return Look::Faulty(Fault::Staff);
+    }
+    if beyond {
+        return Look::Faulty(Fault::Holdings);
+    }
+    Look::Sound
+}
+
 // A row.
 fn look_row(book: &[u8], listed: usize, cursor: Cursor) -> Look
     ensures { λ r. ⌜ r ≡ entryLook rows (now (book .entry)) listed (cursor .before) (cursor .at) ⌝ }
@@ -183,13 +196,10 @@ fn look_row(book: &[u8], listed: usize, cursor: Cursor) -> Look
     if cut(book, at, ROW_WIDTH) {
         return Look::Faulty(Fault::Short);
     }
-    if stays(book, Section::Rows, cursor) {
-        return Look::Faulty(Fault::Staff);
-    }
-    if past_listed(listed, four(book, at + 4)) {
-        return Look::Faulty(Fault::Holdings);
-    }
-    Look::Sound
+    row_look(
+        stays(book, Section::Rows, cursor),
+        past_listed(listed, four(book, at + 4)),
+    )
 }
 
 // The policy whose fields stand here, or its own first fault.

@@ -4,48 +4,47 @@ use crate::draft::b;
 use crate::draft::empty;
 use crate::draft::front;
 use crate::tally::Tally;
-use book::Holdings;
 use book::Listed;
-use book::Staff;
+use book::Seen;
 
 // Whether the row has this staff number, by the view.
 fn staff(book: Draft, row: usize, number: u32) -> bool {
     let bytes = book.bytes;
-    match book::staff_by_row(front(&bytes, book.length), row) {
-        Staff::Number(found) => found == number,
-        Staff::NoSuchRow => false,
+    match book::row_by_number(front(&bytes, book.length), row) {
+        Seen::Row(found) => found.staff == number,
+        Seen::NoSuchRow => false,
     }
 }
 
 // Whether the book has no such row, by the view.
 fn no_staff(book: Draft, row: usize) -> bool {
     let bytes = book.bytes;
-    match book::staff_by_row(front(&bytes, book.length), row) {
-        Staff::Number(_) => false,
-        Staff::NoSuchRow => true,
+    match book::row_by_number(front(&bytes, book.length), row) {
+        Seen::Row(_) => false,
+        Seen::NoSuchRow => true,
     }
 }
 
-fn holdings_of(book: &[u8], row: usize) -> Holdings {
+fn row_of(book: &[u8], row: usize) -> Seen {
     let starts = book::starts_in(book);
-    book::holdings_at(book, starts.rows, row)
+    book::row_at(book, starts, row)
 }
 
-// Whether the row has these holdings.
+// Whether the row has these holdings, by its place.
 fn holdings(book: Draft, row: usize, held: u32) -> bool {
     let bytes = book.bytes;
-    match holdings_of(front(&bytes, book.length), row) {
-        Holdings::Held(found) => found == held,
-        Holdings::NoSuchRow => false,
+    match row_of(front(&bytes, book.length), row) {
+        Seen::Row(found) => found.holdings == held,
+        Seen::NoSuchRow => false,
     }
 }
 
-// Whether the book has no such row.
+// Whether the book has no such row, by its place.
 fn no_holdings(book: Draft, row: usize) -> bool {
     let bytes = book.bytes;
-    match holdings_of(front(&bytes, book.length), row) {
-        Holdings::Held(_) => false,
-        Holdings::NoSuchRow => true,
+    match row_of(front(&bytes, book.length), row) {
+        Seen::Row(_) => false,
+        Seen::NoSuchRow => true,
     }
 }
 

@@ -13,11 +13,11 @@ use Rattle.absences.specs.Tried.{Way, skipping}
 use Rattle.absences.specs.Replied.{policyReplyOf}
 use Rattle.book.specs.Faults.{faultNumber}
 use Rattle.book.specs.Reading.{readOf}
-use Rattle.book.specs.Parts.{startsIn, staffAt, tableOf, policyCount, policyAt}
+use Rattle.book.specs.Parts.{rowByNumber, tableOf, policyCount, policyAt}
 use Rattle.book.specs.declared.Reading.{Reading}
 use Rattle.book.specs.declared.Reading.the-variants.{Good, Refused}
-use Rattle.book.specs.declared.Staff.{Staff}
-use Rattle.book.specs.declared.Staff.the-variants.{Number, NoSuchRow}
+use Rattle.book.specs.declared.Seen.{Seen}
+use Rattle.book.specs.declared.Seen.the-variants as seen
 use Rattle.book.specs.declared.Listed.{Listed}
 use Rattle.book.specs.declared.Listed.the-variants as listed
 use Rattle.lines.specs.declared.Writing.{Writing}
@@ -29,13 +29,13 @@ abbrev pub allowance : ℕ
 allowance = 1000000
 
 -- a row that is not there has no number, and counts as 0; replies name rows of the table only
-abbrev pub staffOr0 : Staff → ℕ
-staffOr0 (Number n) = n
-staffOr0 NoSuchRow = 0
+abbrev pub staffOr0 : Seen → ℕ
+staffOr0 (seen.Row row) = row .staff
+staffOr0 seen.NoSuchRow = 0
 
 -- the staff numbers by row
 unfoldable pub staffOf : List ℕ → List ℕ
-staffOf book = tabulate rowLimit (λ row. staffOr0 (staffAt book (startsIn book .rows) row))
+staffOf book = tabulate rowLimit (λ row. staffOr0 (rowByNumber book row))
 
 -- "asks by the search that skips"
 abbrev pub way : Way

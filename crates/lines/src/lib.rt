@@ -4,7 +4,8 @@ mod text;
 
 use book::Listed;
 use book::Reading;
-use book::Staff;
+use book::Seen;
+use book::Starts;
 use roster::Policy;
 use roster::Reply;
 use roster::Table;
@@ -16,7 +17,7 @@ ghost use lib.ListN.{length};
 ghost use Rattle.roster.specs.Limits.{crewLimit};
 ghost use Rattle.absences.specs.Asked.{PolicyReply};
 ghost use Rattle.absences.specs.Replied.{policyReplyOf};
-ghost use Rattle.book.specs.Parts.{staffAt, tableOf, policyCount, policyAt};
+ghost use Rattle.book.specs.Parts.{rowAt, tableOf, policyCount, policyAt};
 ghost use Rattle.lines.specs.Text.{Room, Appended, space};
 ghost use Rattle.lines.specs.Lines.{verdictWord, setsText, lineOf, badLine};
 ghost use Rattle.lines.specs.Sheet.{allowance, way, staffOr0, staffOf, lineBy, linesFrom, longest, Promised};
@@ -86,12 +87,12 @@ fn bad_line(out: &mut [u8], fault: u32, place: usize) -> usize
 }
 
 // A row's staff number. A row that is not there has none, and none such is printed.
-fn staff_of(book: &[u8], start: usize, row: usize) -> u32
-    ensures { λ r. ⌜ r ≡ staffOr0 (staffAt (now (book .entry)) start row) ⌝ }
+fn staff_of(book: &[u8], starts: Starts, row: usize) -> u32
+    ensures { λ r. ⌜ r ≡ staffOr0 (rowAt (now (book .entry)) starts row) ⌝ }
 {
-    match book::staff_at(book, start, row) {
-        Staff::Number(number) => number,
-        Staff::NoSuchRow => 0,
+    match book::row_at(book, starts, row) {
+        Seen::Row(seen) => seen.staff,
+        Seen::NoSuchRow => 0,
     }
 }
 
@@ -100,11 +101,10 @@ fn all_staff(book: &[u8]) -> [u32; Policy::ROWS]
     ensures { λ r. ⌜ r ≡ staffOf (now (book .entry)) ⌝ }
 {
     let starts = book::starts_in(book);
-    let start = starts.rows;
     let mut staff = [0u32; Policy::ROWS];
     let mut row = 0;
     while row < Policy::ROWS {
-        staff[row] = staff_of(book, start, row);
+        staff[row] = staff_of(book, starts, row);
         row += 1;
     }
     staff

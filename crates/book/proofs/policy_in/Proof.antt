@@ -4,7 +4,7 @@ use mathlib.Core.Path.{_≡_, sym, ap, _∙_}
 use native.Mathlib.Omega.{arith}
 use Rattle.book.specs.Reading.{policies, width}
 use Rattle.book.specs.Parts.{placeOf, listedBy, policyFrom}
-use Rattle.book.proofs.Looks.{both, made-at}
+use Rattle.book.proofs.Looks.{both}
 use Rattle.book.specs.Laws.Places.{place-within}
 use Rattle.book.proofs.policy_in.Statement.{statement}
 use Rattle.book.proofs.policy_in.Tie as tie
@@ -41,7 +41,7 @@ returns c =
     let m = c .before .before .before in
     let p = m .before .before .before .before in
     let a = p .before .before .args in
-    ap listedBy (sym (c .before .policy .given .1) ∙ m .policy-from .ensures ∙ made-at (a .book .now) _)
+    ap listedBy (sym (c .before .policy .given .1) ∙ m .policy-from .ensures)
     ∙ ap (policyFrom (a .book .now)) (sym (m .before .before .at .given .1) ∙ stood p))
 
 returns-2 : tie.Need-returns-2
@@ -50,7 +50,7 @@ returns-2 c =
     let m = c .before .before in
     let p = m .before .before .before .before in
     let a = p .before .before .args in
-    ap listedBy (sym (c .enum-told .given .1) ∙ m .policy-from .ensures ∙ made-at (a .book .now) _)
+    ap listedBy (sym (c .enum-told .given .1) ∙ m .policy-from .ensures)
     ∙ ap (policyFrom (a .book .now)) (sym (m .before .before .at .given .1) ∙ stood p))
 
 returns-3 : tie.Need-returns-3

@@ -6,15 +6,15 @@ use Prim.Native.Nat.{ℕ}
 use Rattle.sets.specs.Arrays.{tabulate}
 use Rattle.roster.specs.declared.Table.{Table}
 use Rattle.book.specs.Reading.{countAt}
-use Rattle.book.specs.Parts.{holdingsAt, heldOr0, tableOf}
+use Rattle.book.specs.Parts.{rowAt, heldOr0, tableOf}
 use Rattle.book.specs.declared.Starts.{Starts}
 use Rattle.book.proofs.Looks.{both}
 use Rattle.book.proofs.table_of.Statement.{statement}
 use Rattle.book.proofs.table_of.Tie as tie
 
--- the holdings of the section that starts here
-abbrev heldFrom : List ℕ → ℕ → List ℕ
-heldFrom book start = tabulate 64 (λ row. heldOr0 (holdingsAt book start row))
+-- the holdings of the rows of a book whose sections start here
+abbrev heldFrom : List ℕ → Starts → List ℕ
+heldFrom book starts = tabulate 64 (λ row. heldOr0 (rowAt book starts row))
 
 -- a table is its two parts
 table-of : {h h′ : List ℕ} {n n′ : ℕ} → h ≡ h′ → n ≡ n′ → _≡_ {A = Table} (record { holdings = h; rows = n }) (record { holdings = h′; rows = n′ })
@@ -35,7 +35,7 @@ returns c =
     both (
     let a = c .before .before .before .before .args in
     let e = c .before .before .starts-in .ensures .0 in
-    table-of (c .all-held .ensures ∙ ap (λ (s : Starts). heldFrom (a .book .now) (s .rows)) e)
+    table-of (c .all-held .ensures ∙ ap (heldFrom (a .book .now)) e)
     (c .before .count-at .ensures ∙ ap (λ (s : Starts). countAt (a .book .now) (s .rows)) e))
 
 pub table-of-spec : {M : Type 1} → statement M

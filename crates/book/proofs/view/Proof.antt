@@ -106,7 +106,7 @@ module _ {M : Type 1} (𝓤 : URA M) (H : Heap 𝓤) (A : Atoms 𝓤) (W : Given
       → ent 𝓤 (⋆ 𝓤 H A (‵ (S.the-row .own r (S′.lowered r ∷ [])) ∷ (‵ (flft κ q) ⊛ ‵ ftrue) ∷ ‵ Own ∷ [])) (Post (T′.lowered (made r)))
   exits-at r e =
       qed W (‵ (S.the-row .own r (S′.lowered r ∷ [])) ∷ (‵ (flft κ q) ⊛ ‵ ftrue) ∷ ‵ Own ∷ []) ∵
-      suffices ! _ (ends-at 𝓤 H A view.ended stayed (view.clauses 𝓤 H A mem run) W (((κ, tt), (q, tt), tt, (s, tt), (v ∷ [], tt)), tt) (T′.lowered (made r)) (made r) (tt, tt) (tt, tt)) $ says-both ! (refl, e) refl $
+      suffices ! _ (ends-at 𝓤 H A view.ended stayed (view.clauses 𝓤 H A mem run) W (((κ, tt), (q, tt), tt, (s, tt), (v ∷ [], tt)), tt) (T′.lowered (made r)) (made r) (tt, tt) (tt, tt)) $ says-both ! (record { lent = refl; starts = e }) refl $
       move ! (2 ∷ []) $ use1 W (‵ Own ⊛ ‵ Own) (shr-slice-copy 𝓤 H A W (named 0) κ u8 .twice s (v ∷ [])) $ split ! $
       -- [what s owns; the same; what the starts own; the token]
       move ! (3 ∷ []) $ frame ! $ nothing ! $ move ! (1 ∷ 0 ∷ []) $ fjoin ! $ frame ! $

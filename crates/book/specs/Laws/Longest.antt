@@ -9,7 +9,8 @@ use Rattle.sets.specs.Laws.Arrays.{length-tabulate}
 use Rattle.roster.specs.Limits.{rowLimit}
 use Rattle.roster.specs.Refusals.{policyRuling}
 use Rattle.roster.specs.declared.Policy.{Policy}
-use Rattle.book.specs.Layout.{Contents, Row, codeWidths, rowWidths, policyWidths, codeFields, rowFields, policyFields, permissionLimit, policyLimit, section, bytesOf, Each, Below, Ascends, Admitted, LayoutOf}
+use Rattle.book.specs.declared.Row.{Row}
+use Rattle.book.specs.Layout.{Contents, codeWidths, rowWidths, policyWidths, codeFields, rowFields, policyFields, permissionLimit, policyLimit, section, bytesOf, Each, Below, Ascends, Admitted, LayoutOf}
 use Rattle.book.specs.Reading.{codes, rows, policies}
 use Rattle.book.specs.Laws.Sections.{joined-length}
 use Rattle.book.specs.Laws.Values.{code-codec, row-codec, policy-codec, each, each-both, code-fits, row-fits, policy-fits}

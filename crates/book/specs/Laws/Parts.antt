@@ -1,43 +1,35 @@
 -- The table, the policies and the rows of a book are its values; a refused book has none. Assumes nothing.
 use mathlib.Core.Path.{_≡_, refl, sym, ap, _∙_, ap₂, fun-ext}
-use mathlib.Core.Logic.{_⊎_, inl, inr}
-use mathlib.Core.Option.{Option, some, none}
+use mathlib.Core.Option.{some}
 use mathlib.Core.List.{List, [], _∷_}
-use Prim.Native.Nat.{ℕ, zero, suc, _+_, _≤_, _<_}
+use Prim.Native.Nat.{ℕ, zero, suc, _+_}
 use native.Mathlib.Omega.{arith}
-use lib.ListN.{length, getD, getElem?, List·getD-eq-default}
+use lib.ListN.{length, getElem?, List·getD-eq-default}
 use Rattle.sets.specs.Arrays.{tabulate}
-use Rattle.sets.specs.Laws.Arrays.{at-tabulate}
 use Rattle.roster.specs.Limits.{rowLimit}
 use Rattle.roster.specs.Refusals.{madeBy}
 use Rattle.roster.specs.declared.Policy.{Policy}
 use Rattle.roster.specs.declared.Ruling.{Ruling}
-use Rattle.roster.specs.declared.Table.{Table}
-use Rattle.book.specs.Layout.{Contents, Row, Each, PolicyFits, LayoutOf}
+use Rattle.book.specs.Layout.{Contents, Each, PolicyFits, LayoutOf}
 use Rattle.book.specs.Reading.{rows, policies, width, entryAt, countAt, readOf, startsOf}
-use Rattle.book.specs.Parts.{valuesAt, contentsOf, startsIn, startsBy, placeOf, staffFrom, staffAt, holdingsFrom, holdingsAt, heldOr0, tableOf, policyCount, listedBy, policyFrom, policyAt}
-use Rattle.book.specs.Promises.{Bytes, staffBy, holdingsBy, policyBy, tableFor, PartsOf, nothing}
+use Rattle.book.specs.Parts.{valuesAt, contentsOf, startsIn, startsBy, placeOf, rowFrom, rowByNumber, heldOr0, tableOf, policyCount, listedBy, policyFrom, policyAt}
+use Rattle.book.specs.Promises.{rowBy, policyBy, tableFor, PartsOf, nothing}
 use Rattle.book.specs.Laws.Sections.{entries-length}
 use Rattle.book.specs.Laws.Values.{row-codec, policy-codec}
-use Rattle.book.specs.Laws.Books.{rowsAt, policiesAt, laid, layout-good, Good, Refused, reply, good-layout}
+use Rattle.book.specs.Laws.Books.{rowsAt, policiesAt, laid, layout-good}
 use Rattle.book.specs.Laws.Places.{standing, standing-value, standing-none}
 use Rattle.book.specs.declared.Fault.{Fault}
-use Rattle.book.specs.declared.Holdings.the-variants as holdings
-use Rattle.book.specs.declared.Staff.the-variants as staff
 use Rattle.book.specs.declared.Place.{Place}
 use Rattle.book.specs.declared.Place.the-variants.{At, Nothing}
 use Rattle.book.specs.declared.Reading.the-variants as read
+use Rattle.book.specs.declared.Row.{Row}
 use Rattle.book.specs.declared.Starts.{Starts}
 
 -- ---- what stands at a place decides
 
-staff-from : (book : List ℕ) (p : Place) → staffFrom book p ≡ staffBy (standing rows book p)
-staff-from book (At at) = refl
-staff-from book Nothing = refl
-
-holdings-from : (book : List ℕ) (p : Place) → holdingsFrom book p ≡ holdingsBy (standing rows book p)
-holdings-from book (At at) = refl
-holdings-from book Nothing = refl
+row-from : (book : List ℕ) (p : Place) → rowFrom book p ≡ rowBy (standing rows book p)
+row-from book (At at) = refl
+row-from book Nothing = refl
 
 policy-from : (book : List ℕ) (listed : ℕ) (p : Place) → ((x : Policy) → standing policies book p ≡ some x → PolicyFits listed x)
     → policyFrom book p ≡ policyBy (standing policies book p)
@@ -59,13 +51,13 @@ module _ (v : Contents) (book : List ℕ) (listed : ℕ)
     (row : (i : ℕ) → standing rows book (placeOf (width rows) book (startsIn book .rows) i) ≡ getElem? (v .rows) i)
     (policy : (i : ℕ) → standing policies book (placeOf (width policies) book (startsIn book .policies) i) ≡ getElem? (v .policies) i)
     (fits : Each (PolicyFits listed) (v .policies)) where
-  held : (i : ℕ) → holdingsAt book (startsIn book .rows) i ≡ holdingsBy (getElem? (v .rows) i)
-  held i = holdings-from book (placeOf (width rows) book (startsIn book .rows) i) ∙ ap holdingsBy (row i)
+  seen : (i : ℕ) → rowByNumber book i ≡ rowBy (getElem? (v .rows) i)
+  seen i = row-from book (placeOf (width rows) book (startsIn book .rows) i) ∙ ap rowBy (row i)
 
   table : tableOf book ≡ tableFor v
   unfolding tableOf
   table =
-      ap₂ (λ (f : ℕ → ℕ) (n : ℕ). record { holdings = tabulate rowLimit f; rows = n }) (fun-ext (λ i. ap heldOr0 (held i))) rowCount
+      ap₂ (λ (f : ℕ → ℕ) (n : ℕ). record { holdings = tabulate rowLimit f; rows = n }) (fun-ext (λ i. ap heldOr0 (seen i))) rowCount
 
   parts : PartsOf v book
   unfolding policyCount policyAt
@@ -76,8 +68,7 @@ module _ (v : Contents) (book : List ℕ) (listed : ℕ)
         policy-from book listed (placeOf (width policies) book (startsIn book .policies) i)
         (λ x e. each-nth (PolicyFits listed) (v .policies) i x fits (sym (policy i) ∙ e))
         ∙ ap policyBy (policy i);
-    staff = λ i. staff-from book (placeOf (width rows) book (startsIn book .rows) i) ∙ ap staffBy (row i);
-    holdings = held;
+    row = seen;
   }
 
 -- ---- a good book has the parts of its values
@@ -117,59 +108,3 @@ refused-parts book f at e =
     (λ i. rw rowsStart (standing-none rows book (length book) i (omega arith)))
     (λ i. rw policiesStart (standing-none policies book (length book) i (omega arith)))
     tt
-
--- ---- the view agrees with the table
-
--- the parts of any byte string are those of some values with few enough rows
-pub record SomeParts (book : List ℕ) : Type 0 where
-  pub values : Contents
-  pub few : length (values .rows) ≤ rowLimit
-  pub parts : PartsOf values book
-
-pub some-parts : (book : List ℕ) → Bytes book → SomeParts book
-some-parts book bytes = go (reply book)
-  where
-    go : Good book ⊎ Refused book → SomeParts book
-    go (inl g) =
-        let l = good-layout book (startsOf book) bytes (g .reply) in
-        record { values = contentsOf book; few = l .admitted .rows; parts = layout-parts (contentsOf book) book l }
-    go (inr r) = record { values = nothing; few = omega arith; parts = refused-parts book (r .fault) (r .place) (r .reply) }
-
-there : {A : Type 0} (l : List A) (i : ℕ) → i < length l → (x : A) × (getElem? l i ≡ some x)
-there [] i h = absurd (omega arith)
-there (x ∷ l) zero h = (x, refl)
-there (x ∷ l) (suc i) h = there l i (omega arith)
-
-not-there : {A : Type 0} (l : List A) (i : ℕ) → length l ≤ i → getElem? l i ≡ none
-not-there [] i h = refl
-not-there (x ∷ l) zero h = absurd (omega arith)
-not-there (x ∷ l) (suc i) h = not-there l i (omega arith)
-
--- what the view answers of a row, beside the table of the same bytes
-pub record RowSeen (book : List ℕ) (row : ℕ) : Type 0 where
-  pub held : row < tableOf book .rows → holdingsAt book (startsIn book .rows) row ≡ holdings.Held (getD (tableOf book .holdings) row 0)
-  pub numbered : row < tableOf book .rows → (n : ℕ) × (staffAt book (startsIn book .rows) row ≡ staff.Number n)
-  pub noHoldings : tableOf book .rows ≤ row → holdingsAt book (startsIn book .rows) row ≡ holdings.NoSuchRow
-  pub noNumber : tableOf book .rows ≤ row → staffAt book (startsIn book .rows) row ≡ staff.NoSuchRow
-
-pub view-agrees : (book : List ℕ) → Bytes book → (row : ℕ) → RowSeen book row
-view-agrees book bytes row =
-    let some = some-parts book bytes in
-    let v = some .values in
-    let p = some .parts in
-    let count : tableOf book .rows ≡ length (v .rows) = ap (λ (t : Table). t .rows) (p .table) in
-    record {
-      held = λ l.
-          let here = there (v .rows) row (omega arith) in
-          let said = p .holdings row ∙ ap holdingsBy (here .1) in
-          let table = ap (λ (t : Table). getD (t .holdings) row 0) (p .table)
-          ∙ at-tabulate rowLimit (λ i. heldOr0 (holdingsBy (getElem? (v .rows) i))) row (omega (arith, some .few))
-          ∙ ap (λ (i : ℕ). heldOr0 (holdingsBy (getElem? (v .rows) i))) (omega arith)
-          ∙ ap (λ (o : Option Row). heldOr0 (holdingsBy o)) (here .1) in
-          said ∙ ap holdings.Held (sym table);
-      numbered = λ l.
-          let here = there (v .rows) row (omega arith) in
-          (here .0 .staff, p .staff row ∙ ap staffBy (here .1));
-      noHoldings = λ l. p .holdings row ∙ ap holdingsBy (not-there (v .rows) row (omega arith));
-      noNumber = λ l. p .staff row ∙ ap staffBy (not-there (v .rows) row (omega arith));
-    }

@@ -1,5 +1,6 @@
 -- The three kinds of entry: their values have no fault exactly if they are admitted. Assumes nothing.
 use mathlib.Core.Path.{_≡_, refl, ap}
+use mathlib.Core.Bool.{Bool, true, false}
 use mathlib.Core.Option.{Option, some, none}
 use mathlib.Core.List.{List, [], _∷_}
 use Prim.Native.Nat.{ℕ, _^_, _≤_, _<_}
@@ -8,16 +9,17 @@ use native.Mathlib.Omega.{arith}
 use lib.Dec.{leb}
 use lib.Pow.{pow-mono}
 use borrow.Author.Tests.{leb-false, lt-leb}
-use Rattle.roster.specs.Refusals.{policyRuling, madeBy}
+use Rattle.roster.specs.Refusals.{ownRuling, madeBy}
 use Rattle.roster.specs.Laws.Rulings.{policy-within}
 use Rattle.roster.specs.declared.Policy.{Policy}
 use Rattle.roster.specs.declared.Ruling.{Ruling}
 use Rattle.roster.specs.declared.Ruling.the-variants as ruling
-use Rattle.book.specs.Layout.{Row, codeFields, rowFields, policyFields, permissionLimit, Each, Below, Ascends, PolicyFits}
-use Rattle.book.specs.Reading.{Kind, fieldsAt, pastListed, codes, rows, policies, byMade}
+use Rattle.book.specs.Layout.{codeFields, rowFields, policyFields, permissionLimit, Each, Below, Ascends, PolicyFits}
+use Rattle.book.specs.Reading.{Kind, fieldsAt, pastListed, rowLook, codes, rows, policies, byMade}
 use Rattle.book.specs.Laws.Codec.{Fit}
 use Rattle.book.specs.Laws.First.{not-faulty, no-fault}
 use Rattle.book.specs.Laws.Sections.{Codec, Fits, Faultless}
+use Rattle.book.specs.declared.Row.{Row}
 use Rattle.book.specs.declared.Fault.the-variants as fault
 use Rattle.book.specs.declared.Look.the-variants.{Sound}
 
@@ -86,21 +88,29 @@ unfolding Below
 code-back listed none x l a m = refl
 code-back listed (some y) x l a m = no-fault (leb x y) fault.Code Sound (lt-leb x y a) refl
 
+-- a row is sound exactly if it has neither fault
+row-sound : (low beyond : Bool) → rowLook low beyond ≡ Sound → (low ≡ false) × (beyond ≡ false)
+row-sound false false e = (refl, refl)
+row-sound false true e = (refl, cc)
+row-sound true false e = (cc, refl)
+row-sound true true e = (cc, cc)
+
+sound-row : {low beyond : Bool} → low ≡ false → beyond ≡ false → rowLook low beyond ≡ Sound
+sound-row l b = rw (l, b)
+
 row-there : (listed : ℕ) (before : Option Row) (x : Row) (l : List Row) → rows .faults listed before x ≡ Sound
     → After (λ row. row .staff) before (x ∷ l) × (x .holdings < 2 ^ listed)
 unfolding Below
-row-there listed none x l e = (tt, leb-false (2 ^ listed) (x .holdings) (not-faulty _ _ _ e .0))
+row-there listed none x l e = (tt, leb-false (2 ^ listed) (x .holdings) (row-sound false (pastListed listed (x .holdings)) e .1))
 row-there listed (some y) x l e =
-    let first = not-faulty _ _ _ e in
-    (leb-false (x .staff) (y .staff) (first .0), leb-false (2 ^ listed) (x .holdings) (not-faulty _ _ _ (first .1) .0))
+    let s = row-sound (leb (x .staff) (y .staff)) (pastListed listed (x .holdings)) e in
+    (leb-false (x .staff) (y .staff) (s .0), leb-false (2 ^ listed) (x .holdings) (s .1))
 
 row-back : (listed : ℕ) (before : Option Row) (x : Row) (l : List Row)
     → After (λ row. row .staff) before (x ∷ l) → x .holdings < 2 ^ listed → rows .faults listed before x ≡ Sound
 unfolding Below
-row-back listed none x l a m = no-fault (pastListed listed (x .holdings)) fault.Holdings Sound (lt-leb (2 ^ listed) (x .holdings) m) refl
-row-back listed (some y) x l a m =
-    no-fault (leb (x .staff) (y .staff)) fault.Staff _ (lt-leb (x .staff) (y .staff) a)
-    (no-fault (pastListed listed (x .holdings)) fault.Holdings Sound (lt-leb (2 ^ listed) (x .holdings) m) refl)
+row-back listed none x l a m = sound-row refl (lt-leb (2 ^ listed) (x .holdings) m)
+row-back listed (some y) x l a m = sound-row (lt-leb (x .staff) (y .staff) a) (lt-leb (2 ^ listed) (x .holdings) m)
 
 -- codes have no fault exactly if they ascend
 pub codes-sound : (listed : ℕ) (l : List ℕ) → Faultless codes codeFields code-codec listed none l → Ascends (λ c. c) l
@@ -131,7 +141,7 @@ admitted (ruling.Refused refusal) p e = cc
 policy-there : (listed : ℕ) (before : Option Policy) (p : Policy) → policies .faults listed before p ≡ Sound → PolicyFits listed p
 policy-there listed before p e =
     let first = not-faulty _ _ _ e in
-    record { task = leb-false (2 ^ listed) (p .task) (first .0); sound = admitted (policyRuling 0 (p .task) (p .away) (p .crews) (p .size)) p (first .1) }
+    record { task = leb-false (2 ^ listed) (p .task) (first .0); sound = admitted (ownRuling p) p (first .1) }
 
 policy-back : (listed : ℕ) (before : Option Policy) (p : Policy) → PolicyFits listed p → policies .faults listed before p ≡ Sound
 policy-back listed before p f =
@@ -170,7 +180,7 @@ fits-row row h = h .0
 pub policy-fits : (listed : ℕ) → listed ≤ permissionLimit → (p : Policy) → PolicyFits listed p → Fits policies policyFields policy-codec p
 unfolding Fit
 policy-fits listed few p f =
-    let w = policy-within 0 (p .task) (p .away) (p .crews) (p .size) (f .sound) in (
+    let w = policy-within _ _ _ _ _ (f .sound) in (
       lt-of-lt-of-le (f .task) (pow-mono few),
       (omega (arith, w .away), (omega (arith, w .few), (omega (arith, w .small), tt))),
     )

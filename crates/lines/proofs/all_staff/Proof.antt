@@ -5,26 +5,26 @@ use Prim.Native.Nat.{ℕ, _-_}
 use borrow.Author.Needs.{needs}
 use Rattle.sets.specs.Arrays.{tabulate}
 use Rattle.sets.specs.Laws.Arrays.{Passed, passed-none, passed-stored, passed-all}
-use Rattle.book.specs.Parts.{staffAt}
+use Rattle.book.specs.Parts.{rowAt}
 use Rattle.book.specs.declared.Starts.{Starts}
 use Rattle.lines.specs.Sheet.{staffOr0, staffOf}
 use Rattle.lines.proofs.all_staff.Statement.{statement}
 use Rattle.lines.proofs.all_staff.Tie as tie
 
-abbrev numberIn : List ℕ → ℕ → ℕ → ℕ
-numberIn book start row = staffOr0 (staffAt book start row)
+abbrev numberIn : List ℕ → Starts → ℕ → ℕ
+numberIn book starts row = staffOr0 (rowAt book starts row)
 
 abbrev Inv-loop : tie.InvT-loop
-Inv-loop book start staff₀ row₀ staff row = Passed 64 (numberIn book start) row staff
+Inv-loop book starts staff₀ row₀ staff row = Passed 64 (numberIn book starts) row staff
 
 abbrev μ-loop : tie.MeasureT-loop
-μ-loop book start staff₀ row₀ staff row = 64 - row
+μ-loop book starts staff₀ row₀ staff row = 64 - row
 
 starts-in-requires : tie.Need-starts-in-requires Inv-loop μ-loop
 starts-in-requires c κs = tt
 
 loop-holds : tie.Need-loop-holds Inv-loop μ-loop
-loop-holds c = passed-none 64 (numberIn (c .before .before .args .book .now) (c .starts-in .result .rows))
+loop-holds c = passed-none 64 (numberIn (c .before .before .args .book .now) (c .starts-in .result))
 
 staff-of-requires : tie.Need-staff-of-requires Inv-loop μ-loop
 staff-of-requires c κs = tt
@@ -44,7 +44,7 @@ loop-less c = search needs
 loop-again : tie.Need-loop-again Inv-loop μ-loop
 loop-again c =
     let l = c .before .before .loop in
-    let f = numberIn (c .before .before .before .before .before .args .book .now) (c .before .before .before .starts-in .result .rows) in
+    let f = numberIn (c .before .before .before .before .before .args .book .now) (c .before .before .before .starts-in .result) in
     passed-stored 64 f (l .row) (c .staff-of .result) (l .staff) (l .inv) (c .before .loop-test .taken) (c .staff-of .ensures)
 
 returns : tie.Need-returns Inv-loop μ-loop
@@ -53,8 +53,8 @@ returns c =
     let l = c .before .loop in
     let p = c .before .before in
     let book = p .before .before .args .book .now in
-    passed-all 64 (numberIn book (p .starts-in .result .rows)) (l .row) (l .staff) (l .inv) (c .loop-test .left)
-    ∙ ap (λ (s : Starts). tabulate 64 (numberIn book (s .rows))) (p .starts-in .ensures .0)
+    passed-all 64 (numberIn book (p .starts-in .result)) (l .row) (l .staff) (l .inv) (c .loop-test .left)
+    ∙ ap (λ (s : Starts). tabulate 64 (numberIn book s)) (p .starts-in .ensures .0)
 
 pub all-staff-spec : {M : Type 1} → statement M
 all-staff-spec =

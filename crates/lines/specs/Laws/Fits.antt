@@ -36,7 +36,7 @@ use Rattle.book.specs.Layout.{Each}
 use Rattle.book.specs.Faults.{faultNumber}
 use Rattle.book.specs.Promises.{Bytes, FirstFault}
 use Rattle.book.specs.Reading.{fieldsAt, Kind, codes, rows, policies, width, entryAt, entryLook, Found, inTurn, countAt, sectionLooks, past, listedIn, endLook, looksFromPolicies, looksFromRows, looks, startsOf}
-use Rattle.book.specs.Parts.{startsIn, placeOf, staffFrom, staffAt, tableOf, contentsOf, policyCount, listedBy, policyFrom, policyAt}
+use Rattle.book.specs.Parts.{startsIn, placeOf, rowFrom, rowByNumber, tableOf, contentsOf, policyCount, listedBy, policyFrom, policyAt}
 use Rattle.book.specs.Laws.Codec.{number-fits}
 use Rattle.book.specs.Laws.Books.{rowsAt, policiesAt, reply, good-layout}
 use Rattle.book.specs.Laws.Books as books
@@ -183,7 +183,7 @@ module _ (staff : List ℕ) (fits : (row : ℕ) → getD staff row 0 < 2 ^ 32) (
 -- ---- the lines of a book
 
 module _ (book : List ℕ) (bytes : Bytes book) where
-  from-fits : (at : Place) → staffOr0 (staffFrom book at) < 2 ^ 32
+  from-fits : (at : Place) → staffOr0 (rowFrom book at) < 2 ^ 32
   unfolding fieldsAt
   from-fits (place.At at) = number-fits 4 book at bytes
   from-fits place.Nothing = omega arith
@@ -193,7 +193,7 @@ module _ (book : List ℕ) (bytes : Bytes book) where
   staff-fits row = go (decLt row 64)
     where
       number : ℕ → ℕ
-      number u = staffOr0 (staffAt book (startsIn book .rows) u)
+      number u = staffOr0 (rowByNumber book u)
 
       go : Dec (row < 64) → getD (tabulate 64 number) row 0 < 2 ^ 32
       go (yes l) =

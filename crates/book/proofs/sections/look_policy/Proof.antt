@@ -5,7 +5,7 @@ use native.Mathlib.Omega.{arith}
 use lib.ListN.{length}
 use Rattle.book.specs.Reading.{entryLook, fieldsAt, pastListed, byMade}
 use Rattle.book.specs.declared.Fault.the-variants.{Short, Task}
-use Rattle.book.proofs.Looks.{faulty, past-fault, uncut, made-at}
+use Rattle.book.proofs.Looks.{faulty, past-fault, uncut}
 use Rattle.book.proofs.sections.look_policy.Statement.{statement}
 use Rattle.book.proofs.sections.look_policy.Tie as tie
 
@@ -50,7 +50,7 @@ returns-3 c =
     let a = p .before .before .before .before .args in
     past-fault Short (p .before .before .cut .ensures) (p .before .if1 .left)
     (past-fault Task (q .before .before .past-listed .ensures ∙ ap (pastListed _) (p .four .ensures)) (q .before .if2 .left)
-    (ap byMade (sym (c .before .refusal .given .1) ∙ q .policy-from .ensures ∙ made-at (a .book .now) (a .at))))
+    (ap byMade (sym (c .before .refusal .given .1) ∙ q .policy-from .ensures)))
 
 returns-4 : tie.Need-returns-4
 unfolding entryLook fieldsAt
@@ -60,7 +60,7 @@ returns-4 c =
     let a = p .before .before .before .before .args in
     past-fault Short (p .before .before .cut .ensures) (p .before .if1 .left)
     (past-fault Task (q .before .before .past-listed .ensures ∙ ap (pastListed _) (p .four .ensures)) (q .before .if2 .left)
-    (ap byMade (sym (c .enum-told .given .1) ∙ q .policy-from .ensures ∙ made-at (a .book .now) (a .at))))
+    (ap byMade (sym (c .enum-told .given .1) ∙ q .policy-from .ensures)))
 
 pub look-policy-spec : {M : Type 1} → statement M
 look-policy-spec =

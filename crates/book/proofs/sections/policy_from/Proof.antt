@@ -1,9 +1,22 @@
--- The numbers that the policy is made of are those that were read. Assumes nothing.
+-- The numbers that the policy is made of are the fields that stand there. Assumes nothing.
 use borrow.Author.Needs.{needs}
-use mathlib.Core.Path.{_∙_}
-use Rattle.book.proofs.Looks.{made-of}
+use mathlib.Core.Path.{_≡_, _∙_}
+use mathlib.Core.List.{List}
+use Prim.Native.Nat.{ℕ, _+_}
+use native.Mathlib.Nat.{add-assoc}
+use lib.ListN.{getD}
+use Rattle.roster.specs.Refusals.{madeOf}
+use Rattle.book.specs.Reading.{number, fieldsAt}
+use Rattle.book.specs.Steps.{madeAt}
+use Rattle.book.proofs.Numbers.{number-1}
 use Rattle.book.proofs.sections.policy_from.Statement.{statement}
 use Rattle.book.proofs.sections.policy_from.Tie as tie
+
+-- a policy of the numbers that stand here is the policy that stands here
+made-at : (book : List ℕ) (at : ℕ) {P s d t : ℕ} → P ≡ number 4 book at → s ≡ getD book (at + 4) 0 → d ≡ getD book (at + 5) 0 → t ≡ getD book (at + 6) 0
+    → madeOf P s d t ≡ madeAt book at
+unfolding fieldsAt
+made-at book at eP es ed et = rw (eP, es, ed, et) (simp (number-1, add-assoc))
 
 four-requires : tie.Need-four-requires
 four-requires c κs = search needs
@@ -39,7 +52,7 @@ returns : tie.Need-returns
 returns c =
     let p = c .before .before .before in
     c .new .ensures .0
-    ∙ made-of
+    ∙ made-at _ _
     (p .before .before .before .four .ensures)
     (p .before .wide .ensures ∙ p .before .before .byte .ensures)
     (p .count-at .ensures)

@@ -1,0 +1,169 @@
+-- A refused book: its number is one of 2 to 5 or of 11 to 19, and its place is at most the book's length. Assumes nothing.
+use mathlib.Core.Path.{_≡_, refl, subst}
+use mathlib.Core.Logic.{inl, inr}
+use mathlib.Core.Bool.{Bool, true, false}
+use mathlib.Core.Option.{Option}
+use mathlib.Core.List.{List, [], _∷_, _++_}
+use Prim.Native.Nat.{ℕ, zero, suc, _+_, _≤_}
+use native.Mathlib.Omega.{arith}
+use lib.Dec.{eqb, ltb}
+use lib.ListN.{length}
+use borrow.Author.Tests.{ltb-false}
+use Rattle.roster.specs.Limits.{awayLimit, crewLimit, sizeLimit}
+use Rattle.roster.specs.Refusals.{refusedIf, outside, policyRuling, ownRuling, madeBy, made}
+use Rattle.roster.specs.declared.Policy.{Policy}
+use Rattle.roster.specs.declared.Refusal.the-variants.{Task, Away, Crews, Size}
+use Rattle.roster.specs.declared.Ruling.{Ruling}
+use Rattle.roster.specs.declared.Ruling.the-variants.{Admitted}
+use Rattle.book.specs.Layout.{Each}
+use Rattle.book.specs.Faults.{faultNumber, BookNumber}
+use Rattle.book.specs.Reading.{Kind, Found, faultIf, notAbove, pastListed, staffOf, rowLook, wholeThen, byMade, codes, rows, policies, width, entryAt, prior, countLook, entryLook, inTurn, countAt, sectionLooks, past, listedIn, endLook, looksFromPolicies, looksFromRows, looks, readOf}
+use Rattle.book.specs.Promises.{AllSound}
+use Rattle.book.specs.Laws.First.{not-faulty}
+use Rattle.book.specs.Laws.Books.{rowsAt, policiesAt, refused-first-fault}
+use Rattle.book.specs.Laws.Sections.{section-sound}
+use Rattle.book.specs.Laws.Values.{code-codec, row-codec, policy-codec}
+use Rattle.book.specs.declared.Fault.{Fault}
+use Rattle.book.specs.declared.Fault.the-variants as fault
+use Rattle.book.specs.declared.Look.{Look}
+use Rattle.book.specs.declared.Look.the-variants.{Sound, Faulty}
+use Rattle.book.specs.declared.Before.{Before}
+use Rattle.book.specs.declared.Before.the-variants.{Nothing, Entry}
+use Rattle.book.specs.declared.Reading.the-variants as read
+
+-- ---- the number
+
+-- what a look tells is a number of a book's
+abbrev Told : Look → Type 0
+Told Sound = Unit
+Told (Faulty f) = BookNumber (faultNumber f)
+
+told-if : (b : Bool) (f : Fault) (rest : Look) → BookNumber (faultNumber f) → Told rest → Told (faultIf b f rest)
+told-if true f rest n t = n
+told-if false f rest n t = t
+
+told-whole : (book : List ℕ) (at wide : ℕ) (rest : Look) → Told rest → Told (wholeThen book at wide rest)
+told-whole book at wide rest t = told-if (ltb (length book) (at + wide)) fault.Short rest (inr (omega arith, omega arith)) t
+
+-- of a policy by itself 2, 3, 4 or 5 is told: there are no rows to be too many, and no absence is named
+told-ruling : (P s d t : ℕ) (r : Ruling) (p : Policy) → policyRuling 0 P s d t ≡ r → Told (byMade (madeBy r p))
+unfolding policyRuling
+told-ruling P s d t r p e = subst (λ (x : Ruling). Told (byMade (madeBy x p))) e (go (eqb P 0) (ltb awayLimit s) (outside crewLimit d) (outside sizeLimit t))
+  where
+    go : (a b c f : Bool) → Told (byMade (madeBy (refusedIf a Task (refusedIf b Away (refusedIf c Crews (refusedIf f Size Admitted)))) p))
+    go true b c f = inl (omega arith, omega arith)
+    go false true c f = inl (omega arith, omega arith)
+    go false false true f = inl (omega arith, omega arith)
+    go false false false true = inl (omega arith, omega arith)
+    go false false false false = tt
+
+told-code : (listed : ℕ) (before : Option ℕ) (code : ℕ) → Told (codes .faults listed before code)
+told-code listed before code = told-if (notAbove before code) fault.Code Sound (inr (omega arith, omega arith)) tt
+
+told-row : (low beyond : Bool) → Told (rowLook low beyond)
+told-row true true = inr (omega arith, omega arith)
+told-row true false = inr (omega arith, omega arith)
+told-row false true = inr (omega arith, omega arith)
+told-row false false = tt
+
+told-policy : (listed : ℕ) (before : Option Policy) (p : Policy) → Told (policies .faults listed before p)
+told-policy listed before p =
+    told-if (pastListed listed (p .task)) fault.Task (byMade (made p)) (inr (omega arith, omega arith)) (told-ruling _ _ _ _ (ownRuling p) p refl)
+
+abbrev AllTold : List Found → Type 0
+AllTold = Each (λ x. Told (x .look))
+
+all-append : (l m : List Found) → AllTold l → AllTold m → AllTold (l ++ m)
+unfolding Each
+all-append [] m a b = b
+all-append (x ∷ l) m a b = (a .0, all-append l m (a .1) b)
+
+told-in : (l m : List Found) (x : Found) → AllTold (l ++ (x ∷ m)) → Told (x .look)
+unfolding Each
+told-in [] m x t = t .0
+told-in (y ∷ l) m x t = told-in l m x (t .1)
+
+module _ {A : Type 0} (kind : Kind A) (count : BookNumber (faultNumber (kind .countFault)))
+    (entry : (listed : ℕ) (before : Option A) (x : A) → Told (kind .faults listed before x)) (book : List ℕ) (listed : ℕ) where
+  entry-told : (before : Before) (at : ℕ) → Told (entryLook kind book listed before at)
+  unfolding entryLook
+  entry-told before at =
+      told-whole book at (width kind) (kind .faults listed (prior (entryAt kind book) before) (entryAt kind book at))
+      (entry listed (prior (entryAt kind book) before) (entryAt kind book at))
+
+  in-turn-told : (before : Before) (at n : ℕ) → AllTold (inTurn (entryLook kind book listed) (width kind) before at n)
+  unfolding Each inTurn
+  in-turn-told before at zero = tt
+  in-turn-told before at (suc n) = (entry-told before at, in-turn-told (Entry at) (at + width kind) n)
+
+  section-told : (at : ℕ) → AllTold (sectionLooks kind book listed at)
+  unfolding Each sectionLooks countLook
+  section-told at =
+      let out = kind .outOfRange (countAt book at) in
+      (told-whole book at 1 (faultIf out (kind .countFault) Sound) (told-if out (kind .countFault) Sound count tt), in-turn-told Nothing (at + 1) (countAt book at))
+
+looks-told : (book : List ℕ) → AllTold (looks book)
+unfolding Each
+looks-told book =
+    let n = listedIn book in
+    let end = past policies book (policiesAt book) in
+    all-append (sectionLooks codes book 0 0) (looksFromRows book (rowsAt book)) (section-told codes (inr (omega arith, omega arith)) told-code book 0 0)
+    (all-append (sectionLooks rows book n (rowsAt book)) (looksFromPolicies book (policiesAt book)) (section-told rows (inr (omega arith, omega arith)) (λ listed before row. told-row (notAbove (staffOf before) (row .staff)) (pastListed listed (row .holdings))) book n (rowsAt book))
+    (all-append (sectionLooks policies book n (policiesAt book)) (endLook book end ∷ [])
+    (section-told policies (inr (omega arith, omega arith)) told-policy book n (policiesAt book))
+    (told-if (ltb end (length book)) fault.Excess Sound (inr (omega arith, omega arith)) tt, tt)))
+
+-- a refused book's number is one of 2 to 5 or of 11 to 19
+pub refused-number : (book : List ℕ) (f : Fault) (at : ℕ) → readOf book ≡ read.Refused f at → BookNumber (faultNumber f)
+refused-number book f at e =
+    let h = refused-first-fault book f at .0 e in
+    told-in (h .before) (h .after) (record { place = at; look = Faulty f }) (subst AllTold (h .order) (looks-told book))
+
+-- ---- the place
+
+module _ (book : List ℕ) where
+  -- whatever is reached, with all before it sound, starts within the book or at its end
+  unfoldable Reached : List Found → Type 0
+  Reached [] = Unit
+  Reached (x ∷ l) = (x .place ≤ length book) × (x .look ≡ Sound → Reached l)
+
+  reached-append : (l m : List Found) → Reached l → (AllSound l → Reached m) → Reached (l ++ m)
+  unfolding Reached Each
+  reached-append [] m a b = b tt
+  reached-append (x ∷ l) m a b = (a .0, λ e. reached-append l m (a .1 e) (λ s. b (e, s)))
+
+  reached-in : (l m : List Found) (x : Found) → AllSound l → Reached (l ++ (x ∷ m)) → x .place ≤ length book
+  unfolding Reached Each
+  reached-in [] m x s r = r .0
+  reached-in (y ∷ l) m x s r = reached-in l m x (s .1) (r .1 (s .0))
+
+  module _ {A : Type 0} (kind : Kind A) (listed : ℕ) where
+    -- past a sound entry the book has it whole
+    in-turn-reached : (before : Before) (at n : ℕ) → at ≤ length book → Reached (inTurn (entryLook kind book listed) (width kind) before at n)
+    unfolding Reached inTurn entryLook
+    in-turn-reached before at zero h = tt
+    in-turn-reached before at (suc n) h =
+        (h, λ e. in-turn-reached (Entry at) (at + width kind) n (ltb-false _ _ (not-faulty _ _ _ e .0)))
+
+    section-reached : (at : ℕ) → at ≤ length book → Reached (sectionLooks kind book listed at)
+    unfolding Reached sectionLooks countLook
+    section-reached at h = (h, λ e. in-turn-reached Nothing (at + 1) (countAt book at) (ltb-false _ _ (not-faulty _ _ _ e .0)))
+
+  looks-reached : Reached (looks book)
+  unfolding Reached
+  looks-reached =
+      let n = listedIn book in
+      let one = sectionLooks codes book 0 0 in
+      let two = sectionLooks rows book n (rowsAt book) in
+      let three = sectionLooks policies book n (policiesAt book) in
+      let end = past policies book (policiesAt book) in
+      reached-append one (looksFromRows book (rowsAt book)) (section-reached codes 0 0 (omega arith)) (λ a.
+      reached-append two (looksFromPolicies book (policiesAt book)) (section-reached rows n (rowsAt book) (section-sound codes _ code-codec book 0 0 a .whole)) (λ b.
+      reached-append three (endLook book end ∷ []) (section-reached policies n (policiesAt book) (section-sound rows _ row-codec book n (rowsAt book) b .whole)) (λ c.
+      (section-sound policies _ policy-codec book n (policiesAt book) c .whole, λ e. tt))))
+
+-- a refused book's place is at most the book's length
+pub refused-place : (book : List ℕ) (f : Fault) (at : ℕ) → readOf book ≡ read.Refused f at → at ≤ length book
+refused-place book f at e =
+    let h = refused-first-fault book f at .0 e in
+    reached-in book (h .before) (h .after) (record { place = at; look = Faulty f }) (h .sound) (subst (Reached book) (h .order) (looks-reached book))
