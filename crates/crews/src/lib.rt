@@ -5,7 +5,6 @@ use roster::Policy;
 use roster::Reply;
 use roster::Ruling;
 use roster::Table;
-use roster::Verdict;
 ghost use mathlib.Core.Path.{_≡_};
 ghost use Prim.Native.Nat.{_≤_, _<_};
 ghost use lib.Bits.{bitAnd, bitXor};
@@ -20,12 +19,12 @@ ghost use Rattle.crews.specs.Named.{NamedReply};
 
 // The half-filled crews: those closed, the one being filled, the rows neither absent nor placed, and what the crew being filled holds. That
 // one is a field of its own because it changes with each row: written into the array, the copy of the array that follows would wait for it.
-pub struct Filling {
-    pub crews: [u64; Policy::CREWS],
-    pub closed: usize,
-    pub crew: u64,
-    pub free: u64,
-    pub held: u32,
+struct Filling {
+    crews: [u64; Policy::CREWS],
+    closed: usize,
+    crew: u64,
+    free: u64,
+    held: u32,
 }
 
 // How filling ends: with a complete list, with all lists exhausted, or because one more unit than the allowance was wanted.
@@ -290,16 +289,10 @@ fn reply_of(filled: Filled) -> Reply
 {
     let crews = filled.crews;
     let ending = filled.ending;
-    let verdict = match ending {
-        Ending::Complete => Verdict::Crews,
-        Ending::Exhausted => Verdict::None,
-        Ending::Undecided => Verdict::Undecided,
-    };
-    Reply {
-        verdict: verdict,
-        crews: crews,
-        blocker: 0,
-        units: filled.units,
+    match ending {
+        Ending::Complete => Reply::crews(crews, filled.units),
+        Ending::Exhausted => Reply::none(filled.units),
+        Ending::Undecided => Reply::undecided(filled.units),
     }
 }
 
@@ -316,12 +309,7 @@ pub fn ask_named(
 {
     let rows = table.rows;
     match roster::named_ruling(rows, task, crews, size, absent) {
-        Ruling::Refused(refusal) => Reply {
-            verdict: Verdict::Refused(refusal),
-            crews: [0; Policy::CREWS],
-            blocker: 0,
-            units: 0,
-        },
+        Ruling::Refused(refusal) => Reply::refused(refusal),
         Ruling::Admitted => {
             let holds = holdings_within(table, task);
             let holders = holders_of(&holds);
