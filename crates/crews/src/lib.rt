@@ -8,9 +8,9 @@ use roster::Table;
 ghost use mathlib.Core.Path.{_≡_};
 ghost use Prim.Native.Nat.{_≤_, _<_};
 ghost use lib.Bits.{bitAnd, bitXor};
-ghost use lib.Count.{ones, trailingZeros};
+ghost use lib.Count.{ones};
 ghost use Rattle.roster.specs.Limits.{rowLimit, crewLimit};
-ghost use Rattle.crews.specs.Filling.{placeOf, closeOf, begin, search, plainly, holdsOf, holdersOf};
+ghost use Rattle.crews.specs.Filling.{placeOf, closeOf, wantedOf, begin, search, plainly, holdsOf, holdersOf};
 ghost use Rattle.sets.specs.Arrays.{tabulate, at};
 ghost use Rattle.crews.specs.Filled.{filledWith, filledOf, closedWhere, stuck, foundFrom, repliedOf, Ready};
 ghost use Rattle.roster.specs.Replies.{noCrews};
@@ -101,6 +101,13 @@ impl Filling {
         }
     }
 
+    // The lowest permission of the task that the crew being filled does not hold; 32 where it holds them all.
+    fn wanted(self, task: u32) -> u32
+        ensures { λ r. ⌜ r ≡ wantedOf task self ⌝ }
+    {
+        sets::lowest(missing(task, self.held))
+    }
+
     // Whether the crew being filled is full without covering: nothing further fits.
     fn stuck(self, task: u32, size: u32) -> bool
         ensures { λ r. ⌜ r ≡ stuck task size self ⌝ }
@@ -144,11 +151,11 @@ fn missing(task: u32, held: u32) -> u32
     task ^ (task & held)
 }
 
-// The free rows that hold the lowest permission of those missing. Where none is missing there is no such row.
-fn candidates(holders: &[u64], missing: u32, free: u64) -> u64
-    ensures { λ r. ⌜ r ≡ bitAnd (at (now (holders .entry)) (trailingZeros 32 missing)) free ⌝ }
+// The free rows that hold the permission. No row holds one that is past the array's end.
+fn candidates(holders: &[u64], wanted: u32, free: u64) -> u64
+    ensures { λ r. ⌜ r ≡ bitAnd (at (now (holders .entry)) wanted) free ⌝ }
 {
-    let permission = sets::lowest(missing) as usize;
+    let permission = wanted as usize;
     if permission >= holders.len() {
         return 0;
     }
@@ -177,7 +184,7 @@ fn fill_on(
     if sets::size(f.crew) >= size {
         return Filled::without_crews(Ending::Exhausted, spent);
     }
-    let mut rest = candidates(holders, missing(task, f.held), f.free);
+    let mut rest = candidates(holders, f.wanted(task), f.free);
     let mut units = spent;
     while rest != 0 {
         if units >= allowance {
