@@ -20,7 +20,7 @@ use Rattle.roster.specs.Replies.{noCrews}
 use Rattle.crews.specs.declared.Filling.{Filling}
 use Rattle.crews.specs.declared.Ending.the-variants.{Exhausted, Undecided}
 use Rattle.crews.specs.declared.Filled.{Filled}
-use Rattle.crews.specs.Filling.{Work, Outcome, missingOf, placeOf, closeOf, placedOf, tryEach, search, plainly}
+use Rattle.crews.specs.Filling.{Work, Outcome, missingOf, placeOf, closeOf, placedOf, wantedOf, tryEach, search, plainly}
 use Rattle.sets.specs.Arrays.{at}
 use Rattle.crews.specs.Filled.{filledOf, closedWhere, stuck, Ready}
 use Rattle.crews.specs.Laws.Search.{search-full}
@@ -72,9 +72,9 @@ settled-answer a placed e =
     ap (filledOf (a .allowance) (a .spent))
     (ap₂ (λ (n : ℕ) (f : Filling). search n (rule a) f) (ap ones (ap (λ (f : Filling). f .free) e ∙ step.closed-free (a .task) placed)) e)
 
--- the free rows that hold the lowest permission missing
+-- the free rows that hold the permission wanted
 abbrev pub all : Asked → ℕ
-all a = bitAnd (at (a .holders) (trailingZeros 32 (missingOf (a .task) (a .state)))) (a .state .free)
+all a = bitAnd (at (a .holders) (wantedOf (a .task) (a .state))) (a .state .free)
 
 -- the search one placement deeper, and each of the rows tried by it
 abbrev deeper : Asked → Filling → Outcome
@@ -103,7 +103,7 @@ begun a placed es r e w n h =
       few = r .few;
       unfinished = omega (arith, ap (λ (f : Filling). f .closed) es, r .closed, n);
       wide = w;
-      own = λ i. omega (arith, ap (λ (x : ℕ). bit x i) e, bit-and (at (a .holders) (trailingZeros 32 (missingOf (a .task) (a .state)))) (a .state .free) i);
+      own = λ i. omega (arith, ap (λ (x : ℕ). bit x i) e, bit-and (at (a .holders) (wantedOf (a .task) (a .state))) (a .state .free) i);
       within = r .within;
       same =
           ap (filledOf (a .allowance) (a .spent))

@@ -1,31 +1,89 @@
--- 01's examples of filling crews, by running the definition.
+-- Filling crews, run: one table of tables, tasks and absences with the crews that are filled and the placements that it takes, and one
+-- theorem: the definition gives these. Wherever 01 makes a choice, some case here moves with another one: which permission, which
+-- candidate, when a crew is closed, when and how far to go back, and what is counted. Nothing but the definition runs.
 use mathlib.Core.Path.{_≡_, refl}
 use mathlib.Core.Bool.{true, false}
-use mathlib.Core.List.{[], _∷_}
+use mathlib.Core.List.{List, [], _∷_, _++_, map}
+use Prim.Native.Nat.{ℕ, _-_, _*_, _^_}
 use lib.Count.{ones, onesIn, trailingZeros}
+use lib.ListN.{length, replicate}
 use Rattle.sets.specs.Sets.{bit}
 use Rattle.sets.specs.Sums.{sumTo, toN}
 use Rattle.sets.specs.Members.{cons?, members, filter, hasb, setOf}
 use Rattle.roster.specs.declared.Table.{Table}
-use Rattle.roster.specs.Replies.{noCrews}
-use Rattle.crews.specs.Filling.{placeOf, closeOf, placedOf, candidates, tryEach, search, filling}
+use Rattle.roster.specs.Examples.{tableWith, tableOf, setOfRows, H}
+use Rattle.crews.specs.Filling.{Outcome, placeOf, closeOf, placedOf, candidates, tryEach, search, filling}
 
--- H of 01
-abbrev pub tableH : Table
-tableH = record { holdings = 3 ∷ 1 ∷ 2 ∷ 3 ∷ []; rows = 4 }
+-- ---- how the table is written
 
--- l: absent {0}, d 2, t 2 gives {1,2} {3} by 3 placements
-pub example-l : filling tableH 3 2 2 1 ≡ record { found = true; crews = 6 ∷ 8 ∷ 0 ∷ 0 ∷ 0 ∷ 0 ∷ 0 ∷ 0 ∷ []; need = 3 }
+-- "H, absent {0}, d 2, t 2" is `filled H 3 (0 ∷ []) 2 2`: the table, P, those absent, d and t
+pub data Question : Type 0 where
+  filled : (table : Table) (P : ℕ) (absent : List ℕ) (d t : ℕ) → Question
+
+infix 68 _gives_
+pub data Case : Type 0 where
+  _gives_ : Question → Outcome → Case
+
+-- "Crews are eight sets; those past d are 0."
+abbrev pub eight : List (List ℕ) → List ℕ
+eight crews = map setOfRows crews ++ replicate (8 - length crews) 0
+
+-- these crews by so many placements, or none
+abbrev pub crews : List (List ℕ) → ℕ → Outcome
+crews list need = record { found = true; crews = eight list; need = need }
+
+abbrev pub none : ℕ → Outcome
+none need = record { found = false; crews = eight []; need = need }
+
+-- ---- the table
+
+abbrev pub cases : List Case
+cases =
+    -- 01, row l, row m, and "holdings 1, 3 with P = 3 and d = t = 1 give a crew only by going back"
+    filled H 3 (0 ∷ []) 2 2 gives crews ((1 ∷ 2 ∷ []) ∷ (3 ∷ []) ∷ []) 3
+    ∷ filled H 3 (0 ∷ 3 ∷ []) 2 2 gives none 2
+    ∷ filled (tableOf (1 ∷ 3 ∷ [])) 3 [] 1 1 gives crews ((1 ∷ []) ∷ []) 2
+    -- nobody there, nobody present, nobody who holds anything of P
+    ∷ filled (tableOf []) 1 [] 1 1 gives none 0
+    ∷ filled (tableOf (3 ∷ [])) 3 (0 ∷ []) 1 1 gives none 0
+    ∷ filled (tableOf (4 ∷ 8 ∷ 12 ∷ [])) 3 [] 1 64 gives none 0
+    -- the lowest permission: with the highest, in all crews, in the first, in the last or in all but the first, other crews are filled
+    ∷ filled (tableOf (1 ∷ 4 ∷ 6 ∷ 5 ∷ 3 ∷ [])) 7 [] 2 3 gives crews ((0 ∷ 2 ∷ []) ∷ (3 ∷ 4 ∷ []) ∷ []) 4
+    ∷ filled (tableOf (8 ∷ 3 ∷ 14 ∷ 3 ∷ 7 ∷ [])) 15 [] 2 3 gives crews ((1 ∷ 2 ∷ []) ∷ (0 ∷ 3 ∷ 4 ∷ []) ∷ []) 5
+    -- of P, which does not begin at permission 0; rows 0 and 4 hold more than P asks
+    ∷ filled (tableOf (75 ∷ 12 ∷ 28 ∷ 4 ∷ 90 ∷ 12 ∷ [])) 28 (5 ∷ []) 2 64 gives crews ((1 ∷ 2 ∷ []) ∷ (0 ∷ 3 ∷ 4 ∷ []) ∷ []) 5
+    -- candidates in ascending order, each time all of them: not the later or the stronger first, nor only those not tried yet, nor one of
+    -- two equal ones; the row past the count would do
+    ∷ filled (tableWith 7 (16 ∷ 18 ∷ 22 ∷ 6 ∷ 20 ∷ 6 ∷ 6 ∷ 22 ∷ [])) 22 (4 ∷ 5 ∷ []) 3 2
+    gives crews ((1 ∷ 3 ∷ []) ∷ (2 ∷ []) ∷ (0 ∷ 6 ∷ []) ∷ []) 12
+    ∷ filled (tableOf (10 ∷ 0 ∷ 9 ∷ 2 ∷ 11 ∷ 3 ∷ 0 ∷ [])) 11 [] 3 2 gives crews ((2 ∷ 3 ∷ []) ∷ (4 ∷ []) ∷ (0 ∷ 5 ∷ []) ∷ []) 10
+    ∷ filled (tableOf (6 ∷ 1 ∷ 6 ∷ 0 ∷ 5 ∷ 14 ∷ 13 ∷ 5 ∷ [])) 15 [] 2 2 gives crews ((1 ∷ 5 ∷ []) ∷ (0 ∷ 6 ∷ []) ∷ []) 9
+    -- a crew is closed as soon as it covers and no sooner, with at most t rows, and keeps a row that it could do without
+    ∷ filled (tableOf (14 ∷ 4 ∷ 2 ∷ 0 ∷ 14 ∷ 6 ∷ 12 ∷ [])) 14 [] 2 2 gives crews ((0 ∷ []) ∷ (2 ∷ 4 ∷ []) ∷ []) 4
+    ∷ filled (tableOf (18 ∷ 29 ∷ 22 ∷ 16 ∷ 0 ∷ 2 ∷ 4 ∷ [])) 22 [] 3 2 gives crews ((0 ∷ 6 ∷ []) ∷ (2 ∷ []) ∷ (1 ∷ 5 ∷ []) ∷ []) 16
+    -- going back, also into earlier crews and past the one before, and with no look ahead
+    ∷ filled (tableOf (12 ∷ 10 ∷ 4 ∷ 11 ∷ 13 ∷ 9 ∷ 7 ∷ 2 ∷ [])) 15 (0 ∷ 5 ∷ []) 3 3
+    gives crews ((2 ∷ 3 ∷ []) ∷ (4 ∷ 7 ∷ []) ∷ (1 ∷ 6 ∷ []) ∷ []) 9
+    ∷ filled (tableWith 5 (5 ∷ 21 ∷ 1 ∷ 21 ∷ 16 ∷ 21 ∷ [])) 21 (2 ∷ []) 3 2 gives crews ((0 ∷ 4 ∷ []) ∷ (1 ∷ []) ∷ (3 ∷ []) ∷ []) 8
+    ∷ filled (tableOf (4 ∷ 36 ∷ 12 ∷ 36 ∷ 56 ∷ 40 ∷ [])) 44 [] 3 64 gives crews ((0 ∷ 4 ∷ []) ∷ (1 ∷ 2 ∷ []) ∷ (3 ∷ 5 ∷ []) ∷ []) 29
+    -- all exhausted, with fewer rows than crews to fill
+    ∷ filled (tableOf (26 ∷ 2 ∷ 64 ∷ 88 ∷ [])) 26 [] 4 2 gives none 7
+    ∷ filled (tableOf (5 ∷ 13 ∷ 1 ∷ 127 ∷ [])) 13 (2 ∷ []) 4 1 gives none 9
+    -- eight crews, with row 0 tried for each of them; the last permissions that there are
+    ∷ filled (tableOf (1 ∷ 3 ∷ 3 ∷ 0 ∷ 3 ∷ 3 ∷ 2 ∷ 3 ∷ 3 ∷ 3 ∷ 3 ∷ [])) 3 [] 8 1
+    gives crews ((1 ∷ []) ∷ (2 ∷ []) ∷ (4 ∷ []) ∷ (5 ∷ []) ∷ (7 ∷ []) ∷ (8 ∷ []) ∷ (9 ∷ []) ∷ (10 ∷ []) ∷ []) 16
+    ∷ filled (tableOf (2 ^ 31 ∷ 0 ∷ 2 ^ 30 ∷ [])) (3 * 2 ^ 30) [] 1 64 gives crews ((0 ∷ 2 ∷ []) ∷ []) 2
+    ∷ []
+
+-- ---- the fact
+
+abbrev pub outcomeOf : Case → Outcome
+outcomeOf (filled table P absent d t gives outcome) = filling table P d t (setOfRows absent)
+
+abbrev pub outcomeTold : Case → Outcome
+outcomeTold (question gives outcome) = outcome
+
+-- the definition fills each case of the table as it says
+pub cases-hold : map outcomeOf cases ≡ map outcomeTold cases
 unfolding bit sumTo toN cons? members filter hasb setOf ones onesIn trailingZeros placeOf closeOf placedOf candidates tryEach search
-example-l = refl
-
--- m: absent {0,3}, d 2, t 2 gives none by 2 placements
-pub example-m : filling tableH 3 2 2 9 ≡ record { found = false; crews = noCrews; need = 2 }
-unfolding bit sumTo toN cons? members filter hasb setOf ones onesIn trailingZeros placeOf closeOf placedOf candidates tryEach search
-example-m = refl
-
--- "holdings 1, 3 with P = 3 and d = t = 1 give a crew only by going back"
-pub example-back : filling (record { holdings = 1 ∷ 3 ∷ []; rows = 2 }) 3 1 1 0
-    ≡ record { found = true; crews = 2 ∷ 0 ∷ 0 ∷ 0 ∷ 0 ∷ 0 ∷ 0 ∷ 0 ∷ []; need = 2 }
-unfolding bit sumTo toN cons? members filter hasb setOf ones onesIn trailingZeros placeOf closeOf placedOf candidates tryEach search
-example-back = refl
+cases-hold = refl

@@ -9,7 +9,7 @@ use Rattle.roster.specs.declared.Verdict.{Verdict}
 use Rattle.roster.specs.declared.Verdict.the-variants as verdict
 use Rattle.roster.specs.declared.Reply.{Reply}
 use Rattle.roster.specs.Limits.{crewLimit}
-use Rattle.roster.specs.Replies.{noCrews}
+use Rattle.roster.specs.Replies.{noCrews, replyWith}
 use Rattle.crews.specs.declared.Filling.{Filling}
 use Rattle.crews.specs.declared.Ending.{Ending}
 use Rattle.crews.specs.declared.Ending.the-variants.{Complete, Exhausted, Undecided}
@@ -59,7 +59,7 @@ verdictOf Exhausted = verdict.None
 verdictOf Undecided = verdict.Undecided
 
 abbrev pub repliedOf : Filled → Reply
-repliedOf filled = record { verdict = verdictOf (filled .ending); crews = filled .crews; blocker = 0; units = filled .units }
+repliedOf filled = replyWith (filled .crews) 0 (filled .units) (filled .units) (verdictOf (filled .ending))
 
 -- What filling on from a placement asks: no more crews are closed than asked for, and the allowance is not overspent.
 pub record Ready (task crews : ℕ) (f : Filling) (spent allowance : ℕ) : Type 0 where

@@ -70,11 +70,14 @@ placedOf w f row =
       | false ↦ g
     ]
 
--- "take the lowest permission of P not yet held there. The candidates are the rows in ascending order that hold it, are not absent and are
--- in no crew."
+-- "take the lowest permission of P not yet held there"
+abbrev pub wantedOf : ℕ → Filling → ℕ
+wantedOf task f = trailingZeros 32 (missingOf task f)
+
+-- "The candidates are the rows in ascending order that hold it, are not absent and are in no crew."
 unfoldable pub candidates : Work → Filling → List ℕ
 candidates w f =
-    let all = members 0 rowLimit (bitAnd (w .holders (trailingZeros 32 (missingOf (w .task) f))) (f .free)) in
+    let all = members 0 rowLimit (bitAnd (w .holders (wantedOf (w .task) f)) (f .free)) in
     elim (eqb (f .crew) 0) [ true ↦ filter (w .begins f) all | false ↦ all ]
 
 -- Each candidate in turn, by `deeper`, up to the first that leads to a complete list. "Every placement, also one that fills a crew without

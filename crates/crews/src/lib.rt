@@ -5,13 +5,12 @@ use roster::Policy;
 use roster::Reply;
 use roster::Ruling;
 use roster::Table;
-use roster::Verdict;
 ghost use mathlib.Core.Path.{_≡_};
 ghost use Prim.Native.Nat.{_≤_, _<_};
 ghost use lib.Bits.{bitAnd, bitXor};
-ghost use lib.Count.{ones, trailingZeros};
+ghost use lib.Count.{ones};
 ghost use Rattle.roster.specs.Limits.{rowLimit, crewLimit};
-ghost use Rattle.crews.specs.Filling.{placeOf, closeOf, begin, search, plainly, holdsOf, holdersOf};
+ghost use Rattle.crews.specs.Filling.{placeOf, closeOf, wantedOf, begin, search, plainly, holdsOf, holdersOf};
 ghost use Rattle.sets.specs.Arrays.{tabulate, at};
 ghost use Rattle.crews.specs.Filled.{filledWith, filledOf, closedWhere, stuck, foundFrom, repliedOf, Ready};
 ghost use Rattle.roster.specs.Replies.{noCrews};
@@ -20,12 +19,12 @@ ghost use Rattle.crews.specs.Named.{NamedReply};
 
 // The half-filled crews: those closed, the one being filled, the rows neither absent nor placed, and what the crew being filled holds. That
 // one is a field of its own because it changes with each row: written into the array, the copy of the array that follows would wait for it.
-pub struct Filling {
-    pub crews: [u64; Policy::CREWS],
-    pub closed: usize,
-    pub crew: u64,
-    pub free: u64,
-    pub held: u32,
+struct Filling {
+    crews: [u64; Policy::CREWS],
+    closed: usize,
+    crew: u64,
+    free: u64,
+    held: u32,
 }
 
 // How filling ends: with a complete list, with all lists exhausted, or because one more unit than the allowance was wanted.
@@ -102,6 +101,13 @@ impl Filling {
         }
     }
 
+    // The lowest permission of the task that the crew being filled does not hold; 32 where it holds them all.
+    fn wanted(self, task: u32) -> u32
+        ensures { λ r. ⌜ r ≡ wantedOf task self ⌝ }
+    {
+        sets::lowest(missing(task, self.held))
+    }
+
     // Whether the crew being filled is full without covering: nothing further fits.
     fn stuck(self, task: u32, size: u32) -> bool
         ensures { λ r. ⌜ r ≡ stuck task size self ⌝ }
@@ -145,11 +151,11 @@ fn missing(task: u32, held: u32) -> u32
     task ^ (task & held)
 }
 
-// The free rows that hold the lowest permission of those missing. Where none is missing there is no such row.
-fn candidates(holders: &[u64], missing: u32, free: u64) -> u64
-    ensures { λ r. ⌜ r ≡ bitAnd (at (now (holders .entry)) (trailingZeros 32 missing)) free ⌝ }
+// The free rows that hold the permission. No row holds one that is past the array's end.
+fn candidates(holders: &[u64], wanted: u32, free: u64) -> u64
+    ensures { λ r. ⌜ r ≡ bitAnd (at (now (holders .entry)) wanted) free ⌝ }
 {
-    let permission = sets::lowest(missing) as usize;
+    let permission = wanted as usize;
     if permission >= holders.len() {
         return 0;
     }
@@ -178,7 +184,7 @@ fn fill_on(
     if sets::size(f.crew) >= size {
         return Filled::without_crews(Ending::Exhausted, spent);
     }
-    let mut rest = candidates(holders, missing(task, f.held), f.free);
+    let mut rest = candidates(holders, f.wanted(task), f.free);
     let mut units = spent;
     while rest != 0 {
         if units >= allowance {
@@ -290,16 +296,10 @@ fn reply_of(filled: Filled) -> Reply
 {
     let crews = filled.crews;
     let ending = filled.ending;
-    let verdict = match ending {
-        Ending::Complete => Verdict::Crews,
-        Ending::Exhausted => Verdict::None,
-        Ending::Undecided => Verdict::Undecided,
-    };
-    Reply {
-        verdict: verdict,
-        crews: crews,
-        blocker: 0,
-        units: filled.units,
+    match ending {
+        Ending::Complete => Reply::crews(crews, filled.units),
+        Ending::Exhausted => Reply::none(filled.units),
+        Ending::Undecided => Reply::undecided(filled.units),
     }
 }
 
@@ -316,12 +316,7 @@ pub fn ask_named(
 {
     let rows = table.rows;
     match roster::named_ruling(rows, task, crews, size, absent) {
-        Ruling::Refused(refusal) => Reply {
-            verdict: Verdict::Refused(refusal),
-            crews: [0; Policy::CREWS],
-            blocker: 0,
-            units: 0,
-        },
+        Ruling::Refused(refusal) => Reply::refused(refusal),
         Ruling::Admitted => {
             let holds = holdings_within(table, task);
             let holders = holders_of(&holds);

@@ -5,4 +5,3 @@ pub mod Lists
 pub mod Swap
 pub mod Limits
 pub mod Same
-pub mod Examples

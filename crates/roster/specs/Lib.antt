@@ -1,5 +1,6 @@
 pub mod Limits
+pub mod Meaning
 pub mod Refusals
 pub mod Replies
-pub mod Meaning
+pub mod Examples
 pub mod Laws

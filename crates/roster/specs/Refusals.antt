@@ -34,10 +34,8 @@ outside most x = eqb x 0 || ltb most x
 unfoldable pub policyRuling : ℕ → ℕ → ℕ → ℕ → ℕ → Ruling
 policyRuling rows P s d t =
     refusedIf (ltb rowLimit rows) Rows
-    (refusedIf (eqb P 0) Task
-    (refusedIf (ltb awayLimit s) Away
-    (refusedIf (outside crewLimit d) Crews
-    (refusedIf (outside sizeLimit t) Size
+    (refusedIf (eqb P 0) Task (refusedIf (ltb awayLimit s) Away
+    (refusedIf (outside crewLimit d) Crews (refusedIf (outside sizeLimit t) Size
     Admitted))))
 
 -- the named absence: 1, 2, 4, 5, 6. A has a bit at or past the row count exactly if it is no number below 2 ^ rows (`past-rows-iff`).
@@ -45,8 +43,7 @@ unfoldable pub namedRuling : ℕ → ℕ → ℕ → ℕ → ℕ → Ruling
 namedRuling rows P d t A =
     refusedIf (ltb rowLimit rows) Rows
     (refusedIf (eqb P 0) Task
-    (refusedIf (outside crewLimit d) Crews
-    (refusedIf (outside sizeLimit t) Size
+    (refusedIf (outside crewLimit d) Crews (refusedIf (outside sizeLimit t) Size
     (refusedIf (leb (2 ^ rows) A) Absence
     Admitted))))
 

@@ -22,8 +22,8 @@ use Rattle.crews.proofs.Filling.complete.Reads as complete-reads
 use Rattle.crews.proofs.Filling.place.Reads as place-reads
 use Rattle.crews.proofs.Filling.settled.Reads as settled-reads
 use Rattle.crews.proofs.Filling.stuck.Reads as stuck-reads
+use Rattle.crews.proofs.Filling.wanted.Reads as wanted-reads
 use Rattle.crews.proofs.candidates.Reads as candidates-reads
-use Rattle.crews.proofs.missing.Reads as missing-reads
 use Rattle.sets.proofs.least.Reads as least-reads
 use Rattle.sets.proofs.size.Reads as size-reads
 use Rattle.crews.proofs.+fill_on.{statement}
@@ -48,8 +48,8 @@ callees t = (
   size-reads.Learnt,
   without-crews-reads.Asked,
   without-crews-reads.Learnt,
-  missing-reads.Asked,
-  missing-reads.Learnt,
+  wanted-reads.Asked,
+  wanted-reads.Learnt,
   candidates-reads.Asked,
   candidates-reads.Learnt,
   least-reads.Asked,
@@ -158,8 +158,8 @@ fill-on-returns-2 t c =
     ∙ step.says-exhausted (a .allowance) (a .spent) _ (search-full (turn.rule a) (a .state) _ (c .before .before .before .if1 .left) full) (s .before .pre .1 .within)
     ∙ told t s
 
-fill-on-missing-requires : (t : ℕ) → fill-on-lts.Need-missing-requires (callees t) (fill-on-at t) fill-on.Post fill-on-Inv-loop fill-on-μ-loop
-fill-on-missing-requires t c κs = search needs
+fill-on-wanted-requires : (t : ℕ) → fill-on-lts.Need-wanted-requires (callees t) (fill-on-at t) fill-on.Post fill-on-Inv-loop fill-on-μ-loop
+fill-on-wanted-requires t c κs = search needs
 
 fill-on-candidates-requires : (t : ℕ) → fill-on-lts.Need-candidates-requires (callees t) (fill-on-at t) fill-on.Post fill-on-Inv-loop fill-on-μ-loop
 fill-on-candidates-requires t c κs = search needs
@@ -169,7 +169,7 @@ fill-on-loop-holds t c =
     let s = c .before .before .before .before .before .before .before in
     let a = asked t s in
     turn.begun a (s .before .args .placed) (s .settled .ensures) (s .before .pre .1)
-    (c .candidates .ensures ∙ ap (λ (m : ℕ). bitAnd (at (a .holders) (trailingZeros 32 m)) (a .state .free)) (c .before .missing .ensures))
+    (c .candidates .ensures ∙ ap (λ (p : ℕ). bitAnd (at (a .holders) p) (a .state .free)) (c .before .wanted .ensures))
     (c .candidates .ok) (c .before .before .before .before .before .if1 .left) (omega (arith, c .before .before .before .before .size .ensures, c .before .before .before .if2 .left))
 
 fill-on-without-crews-requires-2 : (t : ℕ) → fill-on-lts.Need-without-crews-requires-2 (callees t) (fill-on-at t) fill-on.Post fill-on-Inv-loop fill-on-μ-loop
@@ -269,7 +269,7 @@ pub +fill-on-spec : {M : Type 1} → statement M
     (fill-on-size-requires t)
     (fill-on-without-crews-requires t)
     (fill-on-returns-2 t)
-    (fill-on-missing-requires t)
+    (fill-on-wanted-requires t)
     (fill-on-candidates-requires t)
     (fill-on-loop-holds t)
     (fill-on-without-crews-requires-2 t)

@@ -1,7 +1,7 @@
 -- A refused question is answered by its refusal. For an admitted one the arrays say what the definition's functions say (`lent-filling`), so
 -- the reply is that of `filling` under the allowance, and by exactness that is the one allowed (`allowed-by`). Assumes nothing.
-use mathlib.Core.Path.{_≡_, refl, sym, ap, ap₂, _∙_}
-use mathlib.Core.Bool.{Bool, false}
+use mathlib.Core.Path.{_≡_, sym, ap, ap₂, _∙_}
+use mathlib.Core.Bool.{Bool}
 use mathlib.Core.Logic.{_≢_}
 use mathlib.Core.List.{List}
 use Prim.Native.Nat.{ℕ, _-_, _^_, _≤_, _<_}
@@ -21,7 +21,6 @@ use Rattle.crews.specs.Filling.{Outcome, plainly, holdsOf, holdersOf, pr
 use Rattle.sets.specs.Arrays.{tabulate, at}
 use Rattle.crews.specs.Filled.{endingOf, filledOf, foundFrom, verdictOf, repliedOf}
 use Rattle.crews.specs.Named.{NamedReply}
-use Rattle.crews.specs.Laws.Search.{search-none}
 use Rattle.crews.specs.Laws.Named.{allowed-by}
 use Rattle.crews.specs.Laws.Steps.{filled-fits, filled-over}
 use Rattle.crews.specs.Laws.Arrays.{lent-filling}
@@ -41,8 +40,8 @@ module _ (table : Table) (P d t A allowance : ℕ) (wide : P < 2 ^ 32) (r : Repl
   abbrev outcome : Outcome
   outcome = filling table P d t A
 
-  abbrev told : Bool → List ℕ → ℕ → Reply
-  told found crews units = record { verdict = verdictOf (endingOf found); crews = crews; blocker = 0; units = units }
+  abbrev told : Bool → ℕ → Reply
+  told found units = replyWith (outcome .crews) 0 units units (verdictOf (endingOf found))
 
   admitted : namedRuling (table .rows) P d t A ≡ ruling.Admitted → r ≡ repliedOf (filledOf allowance 0 outcome)
       → NamedReply table P d t A allowance r
@@ -50,13 +49,12 @@ module _ (table : Table) (P d t A allowance : ℕ) (wide : P < 2 ^ 32) (r : Repl
       allowed-by table P d t A allowance wide r
       (λ refusal o. let z : _≡_ {A = ℕ} 0 1 = cc in absurd (omega arith))
       (λ o l. h ∙ ap repliedOf (filled-over allowance 0 outcome (omega arith)))
-      (λ o l f.
-      h ∙ ap repliedOf (filled-fits allowance 0 outcome (omega arith))
-      ∙ ap₂ (λ (b : Bool) (n : ℕ). told b (outcome .crews) n) f (zero-add (outcome .need)))
-      (λ o l f.
-      h ∙ ap repliedOf (filled-fits allowance 0 outcome (omega arith))
-      ∙ ap₂ (λ (b : Bool) (n : ℕ). told b (outcome .crews) n) f (zero-add (outcome .need))
-      ∙ ap (λ (crews : List ℕ). told false crews (outcome .need)) (search-none _ _ _ f))
+      (λ o l f. by-found l f)
+      (λ o l f. by-found l f)
+    where
+      by-found : {found : Bool} → outcome .need ≤ allowance → outcome .found ≡ found → r ≡ told found (outcome .need)
+      by-found l f =
+          h ∙ ap repliedOf (filled-fits allowance 0 outcome (omega arith)) ∙ ap₂ told f (zero-add (outcome .need))
 
 -- the search over what the calls handed back is the filling of the table
 same-filling : (table : Table) (P d t A : ℕ) → table .rows ≤ 64 → P ≢ 0 → P < 2 ^ 32 → d ≤ 8
@@ -73,6 +71,9 @@ named-ruling-requires c κs = search needs
 
 enum-known-refusal : tie.Need-enum-known-refusal
 enum-known-refusal c = search needs
+
+refused-requires : tie.Need-refused-requires
+refused-requires c κs = search needs
 
 enum-told : tie.Need-enum-told
 enum-told c = search needs
@@ -94,9 +95,11 @@ reply-of-requires c κs = search needs
 
 returns : tie.Need-returns
 returns c =
-    let s = c .before .before .before .before .args in
-    refused (s .table) (s .task) (s .crews) (s .size) (s .absent) (s .allowance) (c .before .before .before .before .fits .task .fits) _ (c .before .refusal .given .0 .0)
-    (sym (c .before .before .before .named-ruling .ensures) ∙ c .before .refusal .given .1) refl
+    let s = c .before .before .before .before .before .args in
+    let ruled = c .before .before .before .before .named-ruling .ensures in
+    let given = c .before .before .refusal .given in
+    refused (s .table) (s .task) (s .crews) (s .size) (s .absent) (s .allowance) (c .before .before .before .before .before .fits .task .fits) _ (given .0 .0)
+    (sym ruled ∙ given .1) (c .refused .ensures)
 
 returns-2 : tie.Need-returns-2
 returns-2 c =
@@ -119,6 +122,7 @@ ask-named-spec =
     (tie.spec
     named-ruling-requires
     enum-known-refusal
+    refused-requires
     enum-told
     holdings-within-requires
     holders-of-requires

@@ -11,13 +11,13 @@ use lib.Bits.{bitXor}
 use lib.Count.{ones}
 use lib.Dec.{eqb}
 use borrow.Author.Tests.{eqb-true, eqb-false}
-use Rattle.sets.specs.Sets.{bit, Has, Sub, with, bit-none, bit-below, digit, or-in, or-in-l, or-in-r, pow-in, trailing-least}
-use Rattle.sets.specs.Sets.{sub-of-has, sub-lt, has-of-sub, missing-lt, missing-in, missing-all, ones-with, ones-sub, ones-drop, bit-drop-other, drop-sub, bit-with-same}
+use Rattle.sets.specs.Sets.{bit, Has, Sub, with, bit-none, bit-below, digit, or-in, or-in-l, or-in-r, pow-in}
+use Rattle.sets.specs.Sets.{sub-of-has, sub-lt, has-of-sub, missing-all, ones-with, ones-sub, ones-drop, bit-drop-other, drop-sub, bit-with-same}
 use Rattle.sets.specs.Laws.Sums.{either}
 use Rattle.roster.specs.Limits.{rowLimit, crewLimit}
 use Rattle.crews.specs.declared.Filling.{Filling}
-use Rattle.crews.specs.Filling.{Work, Outcome, missingOf, placeOf, closeOf, candidates, search, begin}
-use Rattle.crews.specs.Laws.Search.{lowestOf, putOf, placed-is, Tried, among, try-finds, search-done, search-open}
+use Rattle.crews.specs.Filling.{Work, Outcome, missingOf, placeOf, closeOf, wantedOf, candidates, search, begin}
+use Rattle.crews.specs.Laws.Search.{putOf, wanted-missing, placed-is, Tried, among, try-finds, search-done, search-open}
 use Rattle.crews.specs.Laws.Sound.{Shape, Held, shape-put, shape-close, shape-begin, unfinished}
 
 pub same-or-not : (m n : ℕ) → (m ≡ n) ⊎ (m ≢ n)
@@ -71,7 +71,7 @@ module _ (w : Work) (F : ℕ) (T : ℕ → ℕ) (r : Ready w F) (t : Solves w F 
           room = omega (arith, ones-with (f .crew) row out, ones-sub (with (f .crew) row) (T (f .closed)) grown, t .small (f .closed) l);
           candidate = record {
             below = bit-below (f .free) rowLimit row (sub-lt rowLimit (f .free) F (a .free) (r .rows)) free-row;
-            holder = r .holders (lowestOf w f) row (has-of-sub (f .free) F (a .free) row free-row) (x .2);
+            holder = r .holders (wantedOf (w .task) f) row (has-of-sub (f .free) F (a .free) row free-row) (x .2);
             free = free-row;
           };
         };
@@ -80,13 +80,11 @@ module _ (w : Work) (F : ℕ) (T : ℕ → ℕ) (r : Ready w F) (t : Solves w F 
       l : f .closed < w .crews
       l = unfinished w f (a .shape) c
 
-      lowest : Has (w .task) (lowestOf w f) × (bit (f .held) (lowestOf w f) ≡ 0)
-      lowest =
-          missing-in (w .task) (f .held) (lowestOf w f)
-          (trailing-least 32 (missingOf (w .task) f) (missing-lt 32 (w .task) (f .held) (r .wide)) (omega (arith, a .lacking)) .has)
+      wanted : Has (w .task) (wantedOf (w .task) f) × (bit (f .held) (wantedOf (w .task) f) ≡ 0)
+      wanted = wanted-missing (w .task) f (r .wide) (a .lacking)
 
-      x : (u : ℕ) × Has (T (f .closed)) u × Has (w .holds u) (lowestOf w f)
-      x = t .whole (f .closed) l (lowestOf w f) (lowest .0)
+      x : (u : ℕ) × Has (T (f .closed)) u × Has (w .holds u) (wantedOf (w .task) f)
+      x = t .whole (f .closed) l (wantedOf (w .task) f) (wanted .0)
 
       row : ℕ
       row = x .0
@@ -96,7 +94,7 @@ module _ (w : Work) (F : ℕ) (T : ℕ → ℕ) (r : Ready w F) (t : Solves w F 
 
       -- what the crew has, it holds, and this is missing
       out : bit (f .crew) row ≡ 0
-      out = ⊎-elim (λ z. z) (λ o. absurd (omega (arith, a .held row (lowestOf w f) o (x .2), lowest .1))) (digit (f .crew) row)
+      out = ⊎-elim (λ z. z) (λ o. absurd (omega (arith, a .held row (wantedOf (w .task) f) o (x .2), wanted .1))) (digit (f .crew) row)
 
       free-row : Has (f .free) row
       free-row = ⊎-elim (λ h. h) (λ h. absurd (omega (arith, h .1, out))) (a .left (f .closed) row (omega arith) l mine)

@@ -4,13 +4,13 @@ use mathlib.Core.Path.{_≡_, refl, sym, ap, _∙_, subst}
 use mathlib.Core.Bool.{Bool, true, false, true≢false}
 use mathlib.Core.Logic.{_⊎_, inl, inr, ⊎-elim, _≢_}
 use mathlib.Core.List.{List, [], _∷_, List·Memᴰ, List·Memᴰ·head, List·Memᴰ·tail, List·Memᴰ·cases-cons, List·Memᴰ·not-nil}
-use Prim.Native.Nat.{ℕ, zero, suc, _≤_, _<_}
+use Prim.Native.Nat.{ℕ, zero, suc, _^_, _≤_, _<_}
 use native.Mathlib.Omega.{arith}
 use lib.Bits.{bitAnd}
 use lib.Count.{ones, trailingZeros}
 use lib.Dec.{eqb, leb}
 use borrow.Author.Tests.{eq-eqb, ne-eqb, le-leb, lt-leb, eqb-true, eqb-false, leb-true, leb-false}
-use Rattle.sets.specs.Sets.{Has, and-in, in-and}
+use Rattle.sets.specs.Sets.{bit, Has, and-in, in-and, missing-lt, missing-in, trailing-least}
 use Rattle.sets.specs.Members.{members, setOf}
 use Rattle.sets.specs.Laws.Sums.{either, toN-true}
 use Rattle.sets.specs.Laws.Build.{setOf-bit}
@@ -18,11 +18,7 @@ use Rattle.sets.specs.Laws.Members.{has-of-mem, mem-of-has, filter-members}
 use Rattle.roster.specs.Limits.{rowLimit}
 use Rattle.roster.specs.Replies.{noCrews}
 use Rattle.crews.specs.declared.Filling.{Filling}
-use Rattle.crews.specs.Filling.{Work, Outcome, nothing, complete, missingOf, placeOf, closeOf, placedOf, candidates, tryEach, search}
-
--- the lowest permission of P not yet held by the crew being filled
-abbrev pub lowestOf : Work → Filling → ℕ
-lowestOf w f = trailingZeros 32 (missingOf (w .task) f)
+use Rattle.crews.specs.Filling.{Work, Outcome, nothing, complete, missingOf, placeOf, closeOf, placedOf, wantedOf, candidates, tryEach, search}
 
 -- the row placed, and its crew not yet closed
 abbrev pub putOf : Work → Filling → ℕ → Filling
@@ -61,15 +57,27 @@ module _ (w : Work) (f : Filling) (row : ℕ) where
 
 -- ---- the candidates
 
+-- the permission that is wanted is what the code works out
+pub wanted-is : (task : ℕ) (f : Filling) {m p : ℕ} → m ≡ missingOf task f
+    → p ≡ trailingZeros 32 m
+    → p ≡ wantedOf task f
+wanted-is task f d e = e ∙ ap (trailingZeros 32) d
+
+-- it is one of P, and the crew being filled does not hold it
+pub wanted-missing : (task : ℕ) (f : Filling) → task < 2 ^ 32 → missingOf task f ≢ 0
+    → Has task (wantedOf task f) × (bit (f .held) (wantedOf task f) ≡ 0)
+wanted-missing task f wide some =
+    missing-in task (f .held) (wantedOf task f) (trailing-least 32 (missingOf task f) (missing-lt 32 task (f .held) wide) (omega (arith, some)) .has)
+
 -- row is one: it holds the permission, and is neither absent nor in a crew
 pub record Candidate (w : Work) (f : Filling) (row : ℕ) : Type 0 where
   pub below : row < rowLimit
-  pub holder : Has (w .holders (lowestOf w f)) row
+  pub holder : Has (w .holders (wantedOf (w .task) f)) row
   pub free : Has (f .free) row
 
 module _ (w : Work) (f : Filling) where
   abbrev all : ℕ
-  all = bitAnd (w .holders (lowestOf w f)) (f .free)
+  all = bitAnd (w .holders (wantedOf (w .task) f)) (f .free)
 
   begun : eqb (f .crew) 0 ≡ true → candidates w f ≡ members 0 rowLimit (bitAnd (setOf rowLimit (w .begins f)) all)
   unfolding candidates
@@ -81,7 +89,7 @@ module _ (w : Work) (f : Filling) where
 
   is-candidate : (row : ℕ) → row < rowLimit → Has all row → Candidate w f row
   is-candidate row l h =
-      let x = and-in (w .holders (lowestOf w f)) (f .free) row h in
+      let x = and-in (w .holders (wantedOf (w .task) f)) (f .free) row h in
       record { below = l; holder = x .0; free = x .1 }
 
   pub candidate-of : (row : ℕ) → List·Memᴰ row (candidates w f) → Candidate w f row
@@ -96,7 +104,7 @@ module _ (w : Work) (f : Filling) where
   -- every one is among them that may begin a crew
   pub among : (row : ℕ) → Candidate w f row → w .begins f row ≡ true → List·Memᴰ row (candidates w f)
   among row c b =
-      let h = in-and (w .holders (lowestOf w f)) (f .free) row (c .holder) (c .free) in
+      let h = in-and (w .holders (wantedOf (w .task) f)) (f .free) row (c .holder) (c .free) in
       let s = setOf-bit rowLimit (w .begins f) row (c .below) ∙ toN-true (w .begins f row) b in
       ⊎-elim
       (λ e.

@@ -69,11 +69,11 @@ inside most x e = go (eqb x 0) (ltb most x) refl refl e
 pub policy-within : (rows P s d t : ℕ) → policyRuling rows P s d t ≡ Admitted → Within rows P s d t
 unfolding policyRuling
 policy-within rows P s d t e =
-    let one = no-fault (ltb rowLimit rows) Rows _ e in
-    let two = no-fault (eqb P 0) Task _ (one .1) in
-    let three = no-fault (ltb awayLimit s) Away _ (two .1) in
-    let four = no-fault (outside crewLimit d) Crews _ (three .1) in
-    let five = no-fault (outside sizeLimit t) Size _ (four .1) in
+    let one = no-fault _ _ _ e in
+    let two = no-fault _ _ _ (one .1) in
+    let three = no-fault _ _ _ (two .1) in
+    let four = no-fault _ _ _ (three .1) in
+    let five = no-fault _ _ _ (four .1) in
     record {
       rows = ltb-false rowLimit rows (one .0);
       task = eqb-false P 0 (two .0);
@@ -84,25 +84,15 @@ policy-within rows P s d t e =
       small = inside sizeLimit t (five .0) .1;
     }
 
+-- where the first refusal of the two is none, neither refuses
+neither : (a b : Ruling) → orElse a b ≡ Admitted → (a ≡ Admitted) × (b ≡ Admitted)
+neither Admitted b e = (refl, e)
+neither (Refused refusal) b e = let z : _≡_ {A = ℕ} 0 1 = cc in absurd (omega arith)
+
 pub named-within : (rows P d t A : ℕ) → namedRuling rows P d t A ≡ Admitted → Within rows P 0 d t × (A < 2 ^ rows)
-unfolding policyRuling namedRuling
 named-within rows P d t A e =
-    let one = no-fault (ltb rowLimit rows) Rows _ e in
-    let two = no-fault (eqb P 0) Task _ (one .1) in
-    let four = no-fault (outside crewLimit d) Crews _ (two .1) in
-    let five = no-fault (outside sizeLimit t) Size _ (four .1) in
-    let six = no-fault (leb (2 ^ rows) A) Absence Admitted (five .1) in (
-      record {
-        rows = ltb-false rowLimit rows (one .0);
-        task = eqb-false P 0 (two .0);
-        away = omega arith;
-        some = inside crewLimit d (four .0) .0;
-        few = inside crewLimit d (four .0) .1;
-        member = inside sizeLimit t (five .0) .0;
-        small = inside sizeLimit t (five .0) .1;
-      },
-      leb-false (2 ^ rows) A (six .0),
-    )
+    let x = neither _ _ (sym (named-after-policy rows P d t A) ∙ e) in
+    (policy-within rows P 0 d t (x .0), leb-false (2 ^ rows) A (no-fault _ _ _ (x .1) .0))
 
 -- a set is no set of rows exactly if it has a bit at or past the row count
 pub past-rows-iff : (rows A : ℕ) → A < 2 ^ 64 → (2 ^ rows ≤ A) ↔ ((i : ℕ) × (rows ≤ i) × Has A i)

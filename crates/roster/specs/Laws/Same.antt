@@ -88,11 +88,7 @@ same-holds table other P s d t a = (holds-to table other P s d t a, holds-to oth
 
 outweighs-to : (table other : Table) (P u v : ℕ) → Agree table other P → u < table .rows → v < table .rows
     → Outweighs table P u v → Outweighs other P u v
-outweighs-to table other P u v a lu lv o =
-    subst (λ (y : ℕ). Out (held other P u) y) (a .within v lv) (subst (λ (x : ℕ). Out x (held table P v)) (a .within u lu) o)
-  where
-    Out : ℕ → ℕ → Type 0
-    Out x y = ((i : ℕ) → bit y i ≤ bit x i) × ((x ≢ y) ⊎ ((x ≡ y) × (u < v)))
+outweighs-to table other P u v a lu lv o = rw (a .within u lu, a .within v lv) at o
 
 -- a row of the table outweighs the same rows of it
 pub same-outweighs : (table other : Table) (P u v : ℕ) → Agree table other P → u < table .rows → v < table .rows
