@@ -1,6 +1,7 @@
 -- The reply is that of the whole list of absences: nobody absent first, then the sizes from 1 on. Assumes nothing.
 use mathlib.Core.Path.{_≡_, refl, sym, ap, ap₂, _∙_}
 use mathlib.Core.Logic.{_≢_}
+use mathlib.Core.Bool.{true, false}
 use mathlib.Core.List.{List, [], _∷_}
 use Prim.Native.Nat.{ℕ, _+_, _≤_}
 use native.Mathlib.Nat.{zero-add}
@@ -27,7 +28,7 @@ use Rattle.absences.specs.Tried.{Way, tried, Found, perAbsence, weighed}
 use Rattle.absences.specs.Replied.{repliedBy, policyReplyOf}
 use Rattle.absences.specs.Walk.{courseOf, walkedFrom, walkedOf, walkedBy, sized, replyFrom, searchedBy}
 use Rattle.absences.specs.Laws.Weighed.{andThen, weighed-append}
-use Rattle.absences.specs.Laws.Decided.{verdict-late, verdict-no, verdict-yes}
+use Rattle.absences.specs.Laws.Decided.{verdict-late, verdict-within}
 use Rattle.absences.proofs.Absent.{absent-told}
 use Rattle.absences.proofs.Spent.{Judged, is-open, is-blocked, is-over, judge, walked-fits, walked-over, open-blocked, open-undecided, turn-open, turn-stopped}
 
@@ -46,8 +47,8 @@ reply-told most w r crews e = go (judge most 0 w r e)
         ∙ ap₂ (λ (y : Course) (n : ℕ). replyFrom y crews (w .blocker) n) q (zero-add (w .need))
 
     go : Judged most 0 w r → replyFrom (r .course) crews (r .blocker) (r .units) ≡ repliedBy Admitted w crews most
-    go (is-open b c u l) = fits (omega arith) Open (ap courseOf b) ∙ ap says (sym (verdict-yes w most (omega arith) b))
-    go (is-blocked b c l) = fits l Blocked (ap courseOf b) ∙ ap says (sym (verdict-no w most (omega arith) b))
+    go (is-open b c u l) = fits (omega arith) Open (ap courseOf b) ∙ ap says (sym (verdict-within w most false (omega arith) b))
+    go (is-blocked b c l) = fits l Blocked (ap courseOf b) ∙ ap says (sym (verdict-within w most true (omega arith) b))
     go (is-over l c) =
         ap (λ (y : Walked). replyFrom (y .course) crews (y .blocker) (y .units)) (e ∙ walked-over most 0 w l)
         ∙ ap says (sym (verdict-late w most (omega arith)))

@@ -29,7 +29,7 @@ use Rattle.absences.specs.Tried.{Way, full, skipping, Found}
 use Rattle.absences.specs.Asked.{Refuses, Admits, needPolicy, PolicyReply}
 use Rattle.absences.specs.Replied.{verdictOf, repliedBy, policyReplyOf}
 use Rattle.absences.specs.Laws.Listed.{tried-complete, tried-ascending}
-use Rattle.absences.specs.Laws.Decided.{first-picked, first-not-holds, found, none-blocks, stops-first, one-blocks, verdict-late, verdict-no, verdict-yes, Case, is-refused, is-undecided, is-yes, is-no, admitted-fair, policy-case}
+use Rattle.absences.specs.Laws.Decided.{first-picked, first-not-holds, found, none-blocks, stops-first, one-blocks, verdict-late, verdict-within, Case, is-refused, is-undecided, is-yes, is-no, admitted-fair, policy-case}
 use Rattle.absences.specs.Laws.Weighed.{tried-thinned, thinned-need}
 
 -- ---- demand 1: every input has a reply, and only one
@@ -55,7 +55,7 @@ module _ (way : Way) (table : Table) (P s d t : ℕ) (wide : P < 2 ^ 32) (allowa
   policy-allowed = record {
     refused = λ refusal e. under e;
     undecided = λ e l. under e ∙ ap gives (verdict-late w allowance l);
-    yes = λ e l h. under e ∙ ap gives (verdict-yes w allowance l (all-well e h (either (w .blocked))));
+    yes = λ e l h. under e ∙ ap gives (verdict-within w allowance false l (all-well e h (either (w .blocked))));
     no = λ e l A f. under e ∙ stopped e l A f (either (w .blocked));
   }
     where
@@ -79,7 +79,7 @@ module _ (way : Way) (table : Table) (P s d t : ℕ) (wide : P < 2 ^ 32) (allowa
           → (w .blocked ≡ true) ⊎ (w .blocked ≡ false) → gives (verdictOf w allowance) ≡ replyWith noCrews A need allowance No
       stopped e l A f (inl b) =
           let one = one-blocks way table P s d t (admitted-fair table P s d t wide e) b in
-          ap gives (verdict-no w allowance l b)
+          ap gives (verdict-within w allowance true l b)
           ∙ ap (λ (x : ℕ). replyWith noCrews x need allowance No) (first-blocker-unique table P s d t (w .blocker) A one f)
       stopped e l A f (inr b) =
           absurd (first-not-holds table P s d t A f (none-blocks way table P s d t (admitted-fair table P s d t wide e) b))
