@@ -4,5 +4,6 @@ pub mod Listed
 pub mod Only
 pub mod Weighed
 pub mod Decided
+pub mod Need
 pub mod Demands
 pub mod Same
