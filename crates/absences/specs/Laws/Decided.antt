@@ -1,7 +1,7 @@
 -- Each policy question falls under one row of the table "What comes back", by whichever search. The idea: `tried-sound`, `tried-complete` and
 -- `tried-ascending` say what the list is, exactness of the filling that its test is `Blocks`, and the swap (`first-tried`, `first-blocker-worth`,
 -- `none-worth-none`) that leaving out what is not worth trying loses neither the first blocker nor a "yes". Assumes nothing.
-use mathlib.Core.Path.{_≡_, refl, ap, _∙_, subst}
+use mathlib.Core.Path.{_≡_, refl, subst}
 use mathlib.Core.Logic.{_⊎_, inl, inr}
 use mathlib.Core.Bool.{Bool, true, false}
 use Prim.Native.Nat.{ℕ, _^_, _≤_, _<_}

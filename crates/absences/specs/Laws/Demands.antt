@@ -13,7 +13,6 @@ use Rattle.sets.specs.Laws.Sums.{either}
 use Rattle.roster.specs.declared.Table.{Table}
 use Rattle.roster.specs.declared.Refusal.{Refusal}
 use Rattle.roster.specs.declared.Ruling.{Ruling}
-use Rattle.roster.specs.declared.Ruling.the-variants as ruling
 use Rattle.roster.specs.declared.Verdict.{Verdict}
 use Rattle.roster.specs.declared.Verdict.the-variants.{Yes, No, Undecided, Refused}
 use Rattle.roster.specs.declared.Reply.{Reply}

@@ -1,6 +1,6 @@
 -- The need of a policy question in 01's words: "the sum over the absences tried, up to and including the first that blocks, or all if none does".
 -- `Weighed` has the sums, by what the filling finds; exactness of the filling puts `Blocks` in its place. Assumes nothing.
-use mathlib.Core.Path.{_≡_, refl, sym, ap, _∙_, subst}
+use mathlib.Core.Path.{_≡_, sym, ap, _∙_, subst}
 use mathlib.Core.Logic.{⊎-elim}
 use mathlib.Core.Bool.{true}
 use mathlib.Core.List.{List, [], _∷_, _++_, List·Memᴰ, Memᴰ·append-left}
@@ -11,7 +11,7 @@ use Rattle.roster.specs.Meaning.{Blocks}
 use Rattle.crews.specs.Filling.{filling}
 use Rattle.crews.specs.Named.{needNamed}
 use Rattle.crews.specs.Laws.Exact.{Fair, blocks-none, finds-none}
-use Rattle.absences.specs.Tried.{Way, tried, Found, weighed}
+use Rattle.absences.specs.Tried.{Way, tried, weighed}
 use Rattle.absences.specs.Asked.{Admits, needPolicy}
 use Rattle.absences.specs.Laws.Listed.{tried-sound}
 use Rattle.absences.specs.Laws.Weighed.{sumOf, weighed-all, weighed-first}
