@@ -1,6 +1,7 @@
 -- The reply is that of the whole list of absences: nobody absent first, then the sizes from 1 on. Assumes nothing.
 use mathlib.Core.Path.{_≡_, refl, sym, ap, ap₂, _∙_}
-use mathlib.Core.Logic.{_≢_}
+use mathlib.Core.Logic.{_⊎_, inl, inr, _≢_}
+use mathlib.Core.Bool.{true, false}
 use mathlib.Core.List.{List, [], _∷_}
 use Prim.Native.Nat.{ℕ, _+_, _≤_}
 use native.Mathlib.Nat.{zero-add}
@@ -14,7 +15,6 @@ use Rattle.roster.specs.Refusals.{policyRuling}
 use Rattle.roster.specs.Replies.{replyWith}
 use Rattle.crews.specs.Named.{firstList}
 use Rattle.crews.specs.declared.Ending.{Ending}
-use Rattle.crews.specs.declared.Ending.the-variants as ending
 use Rattle.crews.specs.declared.Filled.{Filled}
 use Rattle.crews.specs.Filling.{filling}
 use Rattle.crews.specs.Filled.{filledOf}
@@ -27,30 +27,30 @@ use Rattle.absences.specs.Tried.{Way, tried, Found, perAbsence, weighed}
 use Rattle.absences.specs.Replied.{repliedBy, policyReplyOf}
 use Rattle.absences.specs.Walk.{courseOf, walkedFrom, walkedOf, walkedBy, sized, replyFrom, searchedBy}
 use Rattle.absences.specs.Laws.Weighed.{andThen, weighed-append}
-use Rattle.absences.specs.Laws.Decided.{verdict-late, verdict-no, verdict-yes}
+use Rattle.absences.specs.Laws.Decided.{verdict-late, verdict-within}
 use Rattle.absences.proofs.Absent.{absent-told}
-use Rattle.absences.proofs.Spent.{Judged, is-open, is-blocked, is-over, judge, walked-fits, walked-over, open-blocked, open-undecided, turn-open, turn-stopped}
+use Rattle.absences.proofs.Spent.{Judged, is-open, is-blocked, is-over, judge, walked-fits, walked-over, open-undecided, turn-open, turn-stopped}
+
+-- the reply where the search has come to r
+abbrev toldBy : ℕ → List ℕ → Walked → Reply
+toldBy most crews r = replyFrom (r .course) crews (r .blocker) (r .units) most
 
 -- the reply from where the search has come to is that from what the absences come to
-pub reply-told : (most : ℕ) (w : Found) (r : Walked) (crews : List ℕ) → r ≡ walkedOf most 0 w
-    → replyFrom (r .course) crews (r .blocker) (r .units) ≡ repliedBy Admitted w crews most
+reply-told : (most : ℕ) (w : Found) (r : Walked) (crews : List ℕ) → r ≡ walkedOf most 0 w → toldBy most crews r ≡ repliedBy Admitted w crews most
 reply-told most w r crews e = go (judge most 0 w r e)
   where
     says : Verdict → Reply
     says v = replyWith crews (w .blocker) (w .need) most v
 
-    fits : 0 + w .need ≤ most → (x : Course) → courseOf (w .blocked) ≡ x
-        → replyFrom (r .course) crews (r .blocker) (r .units) ≡ replyFrom x crews (w .blocker) (w .need)
+    fits : 0 + w .need ≤ most → (x : Course) → courseOf (w .blocked) ≡ x → toldBy most crews r ≡ replyFrom x crews (w .blocker) (w .need) most
     fits h x q =
-        ap (λ (y : Walked). replyFrom (y .course) crews (y .blocker) (y .units)) (e ∙ walked-fits most 0 w h)
-        ∙ ap₂ (λ (y : Course) (n : ℕ). replyFrom y crews (w .blocker) n) q (zero-add (w .need))
+        ap (toldBy most crews) (e ∙ walked-fits most 0 w h)
+        ∙ ap₂ (λ (y : Course) (n : ℕ). replyFrom y crews (w .blocker) n most) q (zero-add (w .need))
 
-    go : Judged most 0 w r → replyFrom (r .course) crews (r .blocker) (r .units) ≡ repliedBy Admitted w crews most
-    go (is-open b c u l) = fits (omega arith) Open (ap courseOf b) ∙ ap says (sym (verdict-yes w most (omega arith) b))
-    go (is-blocked b c l) = fits l Blocked (ap courseOf b) ∙ ap says (sym (verdict-no w most (omega arith) b))
-    go (is-over l c) =
-        ap (λ (y : Walked). replyFrom (y .course) crews (y .blocker) (y .units)) (e ∙ walked-over most 0 w l)
-        ∙ ap says (sym (verdict-late w most (omega arith)))
+    go : Judged most 0 w r → toldBy most crews r ≡ repliedBy Admitted w crews most
+    go (is-open b c u l) = fits (omega arith) Open (ap courseOf b) ∙ ap says (sym (verdict-within w most false (omega arith) b))
+    go (is-blocked b c l) = fits l Blocked (ap courseOf b) ∙ ap says (sym (verdict-within w most true (omega arith) b))
+    go (is-over l c) = ap (toldBy most crews) (e ∙ walked-over most 0 w l) ∙ ap says (sym (verdict-late w most (omega arith)))
 
 -- the first absence tried is that of nobody, and `first` is what its filling says
 module _ (table : Table) (s : Search) (most : ℕ) (first : Filled)
@@ -73,40 +73,44 @@ module _ (table : Table) (s : Search) (most : ℕ) (first : Filled)
 
   -- the reply from r, if r is what all absences come to
   whole : (r : Walked) → r ≡ walkedOf (s .allowance) 0 (andThen (tries (0 ∷ [])) (tries rest))
-      → replyFrom (r .course) crews (r .blocker) (r .units) ≡ searchedBy table s most
+      → toldBy (s .allowance) crews r ≡ searchedBy table s most
   whole r h = reply-told (s .allowance) (tries (0 ∷ rest)) r crews (h ∙ ap (walkedOf (s .allowance) 0) (sym both))
 
-  course-is : (x : Ending) (y : Course) → first .ending ≡ x → walkedFrom x 0 (first .units) .course ≡ y → nobody .course ≡ y
-  course-is x y p q = ap (λ (t : Walked). t .course) f ∙ ap (λ (z : Ending). walkedFrom z 0 (first .units) .course) p ∙ q
-
-  -- where nobody absent does not block, the filling has the first list
-  pub crews-first : nobody .course ≡ Open → first .crews ≡ crews
-  crews-first o = go (steps.judge (s .allowance) perAbsence (filling table (s .task) (s .crews) (s .size) 0) first e)
+  -- unless the allowance is spent the filling has the first list, or none
+  crews-first : nobody .course ≢ Undecided → first .crews ≡ crews
+  crews-first n = go (steps.judge (s .allowance) perAbsence (filling table (s .task) (s .crews) (s .size) 0) first e)
     where
+      has : perAbsence + filling table (s .task) (s .crews) (s .size) 0 .need ≤ s .allowance → first .crews ≡ crews
+      has h = ap (λ (x : Filled). x .crews) (e ∙ steps.filled-fits (s .allowance) perAbsence (filling table (s .task) (s .crews) (s .size) 0) h)
+
       go : steps.Judged (s .allowance) perAbsence (filling table (s .task) (s .crews) (s .size) 0) first → first .crews ≡ crews
-      go (steps.is-complete b w h) = ap (λ (x : Filled). x .crews) (e ∙ steps.filled-fits (s .allowance) perAbsence (filling table (s .task) (s .crews) (s .size) 0) h)
-      go (steps.is-exhausted b w u l) = absurd (open-blocked _ o (course-is ending.Exhausted Blocked w refl))
-      go (steps.is-over h w) = absurd (open-undecided _ o (course-is ending.Undecided Undecided w refl))
+      go (steps.is-complete b w h) = has h
+      go (steps.is-exhausted b w u l) = has (omega arith)
+      go (steps.is-over h w) = absurd (n (ap Walked.course f ∙ ap (λ (z : Ending). walkedFrom z 0 (first .units) .course) w))
+
+  -- the reply is the same from the crews that the filling has as from the first list: where they differ, it has no crews
+  with-first : (r : Walked) → ((r .course ≡ Undecided) ⊎ (nobody .course ≢ Undecided)) → toldBy (s .allowance) (first .crews) r ≡ toldBy (s .allowance) crews r
+  with-first r (inl q) = rw q
+  with-first r (inr n) = ap (λ (c : List ℕ). toldBy (s .allowance) c r) (crews-first n)
 
   pub within-first : nobody .course ≡ Open → nobody .units ≤ s .allowance
   within-first o = turn-open (s .allowance) 0 (tries (0 ∷ [])) (tries rest) nobody alone o .1
 
   pub all-open : (r : Walked) → nobody .course ≡ Open → r ≡ walkedBy table s (nobody .units) rest
-      → replyFrom (r .course) (first .crews) (r .blocker) (r .units) ≡ searchedBy table s most
+      → toldBy (s .allowance) (first .crews) r ≡ searchedBy table s most
   all-open r o h =
-      ap (λ (c : List ℕ). replyFrom (r .course) c (r .blocker) (r .units)) (crews-first o)
+      with-first r (inr (λ q. open-undecided _ o q))
       ∙ whole r (h ∙ sym (turn-open (s .allowance) 0 (tries (0 ∷ [])) (tries rest) nobody alone o .0))
 
-  pub all-stopped : nobody .course ≢ Open → replyFrom (nobody .course) (first .crews) (nobody .blocker) (nobody .units) ≡ searchedBy table s most
+  pub all-stopped : nobody .course ≢ Open → toldBy (s .allowance) (first .crews) nobody ≡ searchedBy table s most
   all-stopped o =
-      unlisted (nobody .course) o
+      with-first nobody (spent (nobody .course))
       ∙ whole nobody (turn-stopped (s .allowance) 0 (tries (0 ∷ [])) (tries rest) nobody alone o)
     where
-      -- only a "yes" has crews
-      unlisted : (x : Course) → x ≢ Open → replyFrom x (first .crews) (nobody .blocker) (nobody .units) ≡ replyFrom x crews (nobody .blocker) (nobody .units)
-      unlisted Open n = absurd (n refl)
-      unlisted Blocked n = refl
-      unlisted Undecided n = refl
+      spent : (x : Course) → (x ≡ Undecided) ⊎ (x ≢ Undecided)
+      spent Open = inr (λ q. open-undecided _ refl q)
+      spent Blocked = inr (λ q. let z : _≡_ {A = ℕ} 0 1 = cc in omega arith)
+      spent Undecided = inl refl
 
 -- the definition's reply, by the ruling
 pub ruled : (way : Way) (table : Table) (P away d t allowance : ℕ) (x : Ruling) → policyRuling (table .rows) P away d t ≡ x

@@ -12,7 +12,8 @@ use Rattle.sets.specs.Sets.{bit}
 use Rattle.sets.specs.Sums.{sumTo, toN}
 use Rattle.sets.specs.Members.{cons?, members, filter, hasb, setOf}
 use Rattle.roster.specs.declared.Table.{Table}
-use Rattle.roster.specs.declared.Verdict.the-variants.{Yes, No, Undecided, Crews, None}
+use Rattle.roster.specs.declared.Refusal.{Refusal}
+use Rattle.roster.specs.declared.Verdict.the-variants.{Yes, No, Undecided, Crews, None, Refused}
 use Rattle.roster.specs.declared.Reply.{Reply}
 use Rattle.roster.specs.Limits.{rowLimit, crewLimit}
 use Rattle.roster.specs.Meaning.{ahead, rank}
@@ -68,6 +69,9 @@ none-with units = record { verdict = None; crews = noCrews; blocker = 0; units =
 
 abbrev pub undecided-with : ℕ → Reply
 undecided-with units = record { verdict = Undecided; crews = noCrews; blocker = 0; units = units }
+
+abbrev pub refused-with : Refusal → Reply
+refused-with refusal = record { verdict = Refused refusal; crews = noCrews; blocker = 0; units = 0 }
 
 -- "Allowance is ample unless given."
 abbrev pub ample : ℕ
@@ -134,11 +138,11 @@ AllAllowed [] = Unit {0}
 AllAllowed (e ∷ rest) = Allowed (e .question) (e .reply) × AllAllowed rest
 
 -- what the definition replies, and whether the task has 32 bits
-abbrev replyOf : Question → Reply
+abbrev pub replyOf : Question → Reply
 replyOf (policy way table P s d t allowance) = policyReplyOf way table P s d t allowance
 replyOf (named table P d t A allowance) = namedReplyOf table P d t A allowance
 
-abbrev narrow : Question → Bool
+abbrev pub narrow : Question → Bool
 narrow (policy way table P s d t allowance) = ltb P (2 ^ 32)
 narrow (named table P d t A allowance) = ltb P (2 ^ 32)
 
@@ -147,7 +151,7 @@ allowed (policy way table P s d t allowance) w = policy-allowed way table P s d 
 allowed (named table P d t A allowance) w = named-allowed table P d t A allowance (ltb-true P (2 ^ 32) w)
 
 -- where the definition gives the replies of a list, they are allowed
-all-allowed : (l : List Example)
+pub all-allowed : (l : List Example)
     → map (λ (e : Example). narrow (e .question)) l ≡ map (λ (e : Example). true) l
     → map (λ (e : Example). replyOf (e .question)) l ≡ map Example.reply l
     → AllAllowed l

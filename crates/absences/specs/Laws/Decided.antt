@@ -1,9 +1,9 @@
 -- Each policy question falls under one row of the table "What comes back", by whichever search. The idea: `tried-sound`, `tried-complete` and
 -- `tried-ascending` say what the list is, exactness of the filling that its test is `Blocks`, and the swap (`first-tried`, `first-blocker-worth`,
 -- `none-worth-none`) that leaving out what is not worth trying loses neither the first blocker nor a "yes". Assumes nothing.
-use mathlib.Core.Path.{_≡_, refl, ap, _∙_, subst}
+use mathlib.Core.Path.{_≡_, refl, subst}
 use mathlib.Core.Logic.{_⊎_, inl, inr}
-use mathlib.Core.Bool.{true, false}
+use mathlib.Core.Bool.{Bool, true, false}
 use Prim.Native.Nat.{ℕ, _^_, _≤_, _<_}
 use native.Mathlib.Decide.{decLe}
 use native.Mathlib.Omega.{arith}
@@ -14,7 +14,6 @@ use Rattle.roster.specs.declared.Table.{Table}
 use Rattle.roster.specs.declared.Refusal.{Refusal}
 use Rattle.roster.specs.declared.Ruling.{Ruling}
 use Rattle.roster.specs.declared.Ruling.the-variants as ruling
-use Rattle.roster.specs.declared.Verdict.the-variants.{Yes, No, Undecided, Refused}
 use Rattle.roster.specs.Meaning.{Blocks, Absence, Holds, Earlier, First, FirstBlocker}
 use Rattle.roster.specs.Refusals.{policyRuling}
 use Rattle.roster.specs.Laws.Order.{earlier-irrefl, earlier-trans}
@@ -87,16 +86,10 @@ module _ (way : Way) (table : Table) (P s d t : ℕ) (fair : Fair table P d) whe
 
 module _ (w : Found) (allowance : ℕ) where
   -- an allowance that is just the need is enough
-  decided : w .need ≤ allowance → verdictOf w allowance ≡ judged true (w .blocked)
-  decided l = let enough = le-leb (w .need) allowance l in cc
+  pub verdict-within : (b : Bool) → w .need ≤ allowance → w .blocked ≡ b → verdictOf w allowance ≡ judged true b
+  verdict-within b l e = let enough = le-leb (w .need) allowance l in cc
 
-  pub verdict-no : w .need ≤ allowance → w .blocked ≡ true → verdictOf w allowance ≡ No
-  verdict-no l b = decided l ∙ ap (judged true) b
-
-  pub verdict-yes : w .need ≤ allowance → w .blocked ≡ false → verdictOf w allowance ≡ Yes
-  verdict-yes l b = decided l ∙ ap (judged true) b
-
-  pub verdict-late : allowance < w .need → verdictOf w allowance ≡ Undecided
+  pub verdict-late : allowance < w .need → verdictOf w allowance ≡ judged false (w .blocked)
   verdict-late l = let short = lt-leb (w .need) allowance l in cc
 
 -- ---- which row of the table "What comes back" a question falls under

@@ -13,23 +13,22 @@ use Rattle.sets.specs.Laws.Sums.{either}
 use Rattle.roster.specs.declared.Table.{Table}
 use Rattle.roster.specs.declared.Refusal.{Refusal}
 use Rattle.roster.specs.declared.Ruling.{Ruling}
-use Rattle.roster.specs.declared.Ruling.the-variants as ruling
 use Rattle.roster.specs.declared.Verdict.{Verdict}
 use Rattle.roster.specs.declared.Verdict.the-variants.{Yes, No, Undecided, Refused}
 use Rattle.roster.specs.declared.Reply.{Reply}
-use Rattle.roster.specs.Meaning.{CrewList, Holds, FirstBlocker}
+use Rattle.roster.specs.Meaning.{CrewList, Blocks, Absence, Holds, FirstBlocker}
 use Rattle.roster.specs.Refusals.{policyRuling}
 use Rattle.roster.specs.Replies.{noCrews, replyWith}
 use Rattle.roster.specs.Laws.Order.{first-blocker-unique}
 use Rattle.crews.specs.Filling.{filling}
 use Rattle.crews.specs.Named.{firstList}
 use Rattle.crews.specs.Laws.Sound.{Eight, none-at}
-use Rattle.crews.specs.Laws.Exact.{crews-eight, crews-past, Fair, finds-list, finds-none}
+use Rattle.crews.specs.Laws.Exact.{crews-eight, crews-past, Fair, finds-list, finds-none, holds-all}
 use Rattle.absences.specs.Tried.{Way, full, skipping, Found}
 use Rattle.absences.specs.Asked.{Refuses, Admits, needPolicy, PolicyReply}
 use Rattle.absences.specs.Replied.{verdictOf, repliedBy, policyReplyOf}
 use Rattle.absences.specs.Laws.Listed.{tried-complete, tried-ascending}
-use Rattle.absences.specs.Laws.Decided.{first-picked, first-not-holds, found, none-blocks, stops-first, one-blocks, verdict-late, verdict-no, verdict-yes, Case, is-refused, is-undecided, is-yes, is-no, admitted-fair, policy-case}
+use Rattle.absences.specs.Laws.Decided.{first-picked, first-not-holds, found, none-blocks, stops-first, one-blocks, verdict-late, verdict-within, Case, is-refused, is-undecided, is-yes, is-no, admitted-fair, policy-case}
 use Rattle.absences.specs.Laws.Weighed.{tried-thinned, thinned-need}
 
 -- ---- demand 1: every input has a reply, and only one
@@ -55,7 +54,7 @@ module _ (way : Way) (table : Table) (P s d t : ℕ) (wide : P < 2 ^ 32) (allowa
   policy-allowed = record {
     refused = λ refusal e. under e;
     undecided = λ e l. under e ∙ ap gives (verdict-late w allowance l);
-    yes = λ e l h. under e ∙ ap gives (verdict-yes w allowance l (all-well e h (either (w .blocked))));
+    yes = λ e l h. under e ∙ ap gives (verdict-within w allowance false l (all-well e h (either (w .blocked))));
     no = λ e l A f. under e ∙ stopped e l A f (either (w .blocked));
   }
     where
@@ -79,7 +78,7 @@ module _ (way : Way) (table : Table) (P s d t : ℕ) (wide : P < 2 ^ 32) (allowa
           → (w .blocked ≡ true) ⊎ (w .blocked ≡ false) → gives (verdictOf w allowance) ≡ replyWith noCrews A need allowance No
       stopped e l A f (inl b) =
           let one = one-blocks way table P s d t (admitted-fair table P s d t wide e) b in
-          ap gives (verdict-no w allowance l b)
+          ap gives (verdict-within w allowance true l b)
           ∙ ap (λ (x : ℕ). replyWith noCrews x need allowance No) (first-blocker-unique table P s d t (w .blocker) A one f)
       stopped e l A f (inr b) =
           absurd (first-not-holds table P s d t A f (none-blocks way table P s d t (admitted-fair table P s d t wide e) b))
@@ -205,6 +204,29 @@ module _ (way : Way) (table : Table) (P s d t : ℕ) (wide : P < 2 ^ 32) (allowa
             spent = λ q. never (cc);
             units = λ n q. ap Reply.units k;
           }
+
+  -- "yes" exactly if every absence of at most s leaves d disjoint crews, each of at most t and covering the task
+  pub policy-yes : (r .verdict ≡ Yes)
+      ↔ (Admits table P s d t
+      × (needPolicy way table P s d t ≤ allowance)
+      × ((A : ℕ) → Absence table s A → (crews : List ℕ) × CrewList table P d t A crews))
+  policy-yes = (
+    λ q. let x = policy-exactly .yes .0 q in (x .0, x .1, holds-all (admitted-fair table P s d t wide (x .0)) s t (x .2)),
+    λ x. policy-exactly .yes .1 (x .0, x .1, λ A a b. let c = x .2 A a in b (c .0) (c .1)),
+  )
+
+  -- "no" exactly if one of them leaves none
+  pub policy-no : (r .verdict ≡ No)
+      ↔ (Admits table P s d t
+      × (needPolicy way table P s d t ≤ allowance)
+      × ((A : ℕ) × Absence table s A × Blocks table P d t A))
+  policy-no = (
+    λ q.
+        let x = policy-exactly .no .0 q in
+        let first = policy-exactly .blocker q in
+        (x .0, x .1, (r .blocker, record { rows = first .rows; few = first .is .0 }, first .is .1)),
+    λ x. policy-exactly .no .1 (x .0, x .1, λ h. h (x .2 .0) (x .2 .1) (x .2 .2)),
+  )
 
 -- ---- demand 3
 

@@ -54,6 +54,11 @@ on-top-fits A o w e = rw e
 on-top-blocks : (A : ℕ) (o : Outcome) (w : Found) → o .found ≡ false → onTop A o w ≡ record { blocked = true; blocker = A; need = unitsOf o }
 on-top-blocks A o w e = rw e
 
+-- the sum over a list
+unfoldable pub sumOf : (ℕ → ℕ) → List ℕ → ℕ
+sumOf f [] = 0
+sumOf f (A ∷ l) = f A + sumOf f l
+
 module _ (table : Table) (P d t : ℕ) where
   abbrev fits : ℕ → Bool
   fits A = filling table P d t A .found
@@ -149,28 +154,23 @@ module _ (table : Table) (P d t : ℕ) where
       go x (inl e) = e
       go (A, i, f) (inr e) = absurd (clash (all-fit l e A i) f)
 
-  -- ---- the need in the words of 01
+  -- ---- the need is a sum
 
-  -- "the sum over the absences tried"
-  pub total : List ℕ → ℕ
-  total [] = 0
-  total (A ∷ l) = cost A + total l
-
-  -- "or all if none does"
-  pub need-all : (l : List ℕ) → ((A : ℕ) → List·Memᴰ A l → fits A ≡ true) → tries l .need ≡ total l
-  unfolding total
-  need-all [] f = ap Found.need weighed-none
-  need-all (A ∷ l) f =
-      let rest = need-all l (λ B i. f B (List·Memᴰ·tail i)) in
+  -- of the whole list, if nothing in it blocks
+  pub weighed-all : (l : List ℕ) → ((A : ℕ) → List·Memᴰ A l → fits A ≡ true) → tries l .need ≡ sumOf cost l
+  unfolding sumOf
+  weighed-all [] f = ap Found.need weighed-none
+  weighed-all (A ∷ l) f =
+      let rest = weighed-all l (λ B i. f B (List·Memᴰ·tail i)) in
       omega (arith, ap Found.need (weighed-fits A l (f A (List·Memᴰ·head refl))))
 
-  -- "up to and including the first that blocks"
-  pub need-first : (l m : List ℕ) (B : ℕ) → ((A : ℕ) → List·Memᴰ A l → fits A ≡ true) → fits B ≡ false
-      → tries (l ++ (B ∷ m)) .need ≡ total l + cost B
-  unfolding total
-  need-first [] m B f b = omega (arith, ap Found.need (weighed-blocks B m b))
-  need-first (A ∷ l) m B f b =
-      let rest = need-first l m B (λ C i. f C (List·Memᴰ·tail i)) b in
+  -- up to and including B, if B is the first that blocks
+  pub weighed-first : (l m : List ℕ) (B : ℕ) → ((A : ℕ) → List·Memᴰ A l → fits A ≡ true) → fits B ≡ false
+      → tries (l ++ (B ∷ m)) .need ≡ sumOf cost (l ++ (B ∷ []))
+  unfolding sumOf
+  weighed-first [] m B f b = omega (arith, ap Found.need (weighed-blocks B m b))
+  weighed-first (A ∷ l) m B f b =
+      let rest = weighed-first l m B (λ C i. f C (List·Memᴰ·tail i)) b in
       omega (arith, ap Found.need (weighed-fits A (l ++ (B ∷ m)) (f A (List·Memᴰ·head refl))))
 
 -- ---- a list that leaves some absences out
