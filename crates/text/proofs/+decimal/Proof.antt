@@ -6,7 +6,7 @@ use native.Mathlib.Omega.{arith}
 use Rattle.text.specs.Text.{digit}
 use Rattle.text.specs.Text.{decimal as spelt}
 use Rattle.text.specs.Laws.Decimal.{decimal-small, decimal-large}
-use Rattle.text.specs.Laws.Appends.{then, same, read-as}
+use Rattle.text.specs.Laws.Appends.{_then_, same, read-as}
 use Prim.Native.Nat.{ℕ, _/_, _%_, _≤_, _<_}
 use borrow.Fn.Kinds.{In}
 use borrow.Fn.PlainCycle.{Measures, is, falls, and}
@@ -75,7 +75,7 @@ decimal-returns-2 t c =
     let p = d .before .before .before .before in
     let s = p .before .before .before .before in
     read-as (sym (more (s .args .n) (d .digit2 .result) (p .before .before .if1 .left) (d .digit2 .ensures)))
-    (then (p .decimal .ensures) (c .before .before .put2 .ensures))
+    (p .decimal .ensures then c .before .before .put2 .ensures)
 
 pub +decimal-spec : {M : Type 1} → statement M
 +decimal-spec = close μ-decimal λ t. decimal-lts.spec (callees t)

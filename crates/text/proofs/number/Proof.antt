@@ -1,5 +1,5 @@
 -- The mark is appended and then the number. Assumes nothing.
-use Rattle.text.specs.Laws.Appends.{then}
+use Rattle.text.specs.Laws.Appends.{_then_}
 use borrow.Author.Needs.{needs}
 use Rattle.text.proofs.number.Statement.{statement}
 use Rattle.text.proofs.number.Tie as tie
@@ -14,7 +14,7 @@ same-length : tie.Need-same-length
 same-length c = search needs
 
 returns : tie.Need-returns
-returns c = then (c .before .before .before .before .before .before .put .ensures) (c .before .before .decimal .ensures)
+returns c = c .before .before .before .before .before .before .put .ensures then c .before .before .decimal .ensures
 
 pub number-spec : {M : Type 1} → statement M
 number-spec = tie.close (tie.spec put-requires decimal-requires same-length returns)

@@ -6,7 +6,7 @@ use native.Mathlib.Omega.{arith}
 use lib.ListN.{length, take}
 use lib.Seq.{take-suc, take-all}
 use Rattle.text.specs.Text.{Appended}
-use Rattle.text.specs.Laws.Appends.{then, none, same, read-as}
+use Rattle.text.specs.Laws.Appends.{_then_, none, same, read-as}
 use Rattle.text.proofs.word.Statement.{statement}
 use Rattle.text.proofs.word.Tie as tie
 
@@ -37,7 +37,7 @@ loop-again c =
     let i = p .loop .i in
     let bytes = p .before .before .before .args .bytes .now in
     let e = ap (λ (k : ℕ). take k bytes) (add-one i) ∙ take-suc bytes i 0 (omega arith) in
-    (omega arith, read-as (sym e) (then (p .loop .inv .1) (c .before .before .put .ensures)))
+    (omega arith, read-as (sym e) (p .loop .inv .1 then c .before .before .put .ensures))
 
 same-length : tie.Need-same-length Inv-loop μ-loop
 same-length c = same (c .before .loop .inv .1)

@@ -69,8 +69,9 @@ none old at = record { stand = ap (sets old at) e; past = omega (arith, ap lengt
     e = sym (take-nil (length old - at))
 
 -- an append and then another
-pub then : {a b old mid new : List ℕ} {at next end : ℕ} → Appended a old at mid next → Appended b mid next new end → Appended (a ++ b) old at new end
-then {a} {b} {old} {mid} {new} {at} p q = record {
+infixl 50 _then_
+pub _then_ : {a b old mid new : List ℕ} {at next end : ℕ} → Appended a old at mid next → Appended b mid next new end → Appended (a ++ b) old at new end
+_then_ {a} {b} {old} {mid} {new} {at} p q = record {
   stand =
       q .stand
       ∙ ap (λ (k : ℕ). sets mid k (fitting b mid k)) (p .past)
@@ -103,7 +104,7 @@ pub step : (a : List ℕ) {whole rest old mid new : List ℕ} {at next end : ℕ
 step a {rest = rest} p q = record {
   done = p .done ++ a;
   split = append-assoc (p .done) a rest ∙ p .split;
-  so = then (p .so) q;
+  so = p .so then q;
 }
 
 module _ {whole old new : List ℕ} {at next : ℕ} where

@@ -3,8 +3,8 @@ use mathlib.Core.Path.{ap}
 use lib.Bits.{bitXor}
 use borrow.Author.Needs.{needs}
 use Rattle.sets.specs.Sets.{shl-one}
-use Rattle.lines.proofs.text.without.Statement.{statement}
-use Rattle.lines.proofs.text.without.Tie as tie
+use Rattle.lines.proofs.field.without.Statement.{statement}
+use Rattle.lines.proofs.field.without.Tie as tie
 
 shl-result : tie.Need-shl-result
 shl-result c = search needs

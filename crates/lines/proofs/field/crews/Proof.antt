@@ -6,16 +6,16 @@ use native.Mathlib.Numerals.{add-one}
 use native.Mathlib.Omega.{arith}
 use borrow.Author.Needs.{needs}
 use lib.ListN.{length, getD}
-use Rattle.lines.specs.Text.{comma, slash, marked}
-use Rattle.lines.specs.Lines.{names, setText, filled}
-use Rattle.lines.proofs.Appends.{SoFar, begin, step, fits, with-rest, finish, same}
+use Rattle.text.specs.Text.{marked}
+use Rattle.lines.specs.Lines.{names, betweenMembers, setText, filled, betweenCrews}
+use Rattle.text.specs.Laws.Appends.{SoFar, begin, step, with-rest, finish, same}
 use Rattle.lines.proofs.Walk.{crewsFrom, crew-next, crew-stop, crew-last}
-use Rattle.lines.proofs.text.crews.Statement.{statement}
-use Rattle.lines.proofs.text.crews.Tie as tie
+use Rattle.lines.proofs.field.crews.Statement.{statement}
+use Rattle.lines.proofs.field.crews.Tie as tie
 
 abbrev Inv-loop : tie.InvT-loop
 Inv-loop out₀ at staff mark sets next₀ before₀ j₀ out next before j =
-    SoFar (marked mark slash (map (setText staff) (filled sets))) (crewsFrom staff sets before j) out₀ at out next
+    SoFar (marked mark betweenCrews (map (setText staff) (filled sets))) (crewsFrom staff sets before j) out₀ at out next
 
 abbrev μ-loop : tie.MeasureT-loop
 μ-loop out₀ at staff mark sets next₀ before₀ j₀ out next before j = length sets - j
@@ -23,7 +23,7 @@ abbrev μ-loop : tie.MeasureT-loop
 loop-holds : tie.Need-loop-holds Inv-loop μ-loop
 loop-holds c =
     let a = c .before .before .args in
-    let first : SoFar (marked (a .mark) slash (map (setText (a .staff .now)) (filled (a .sets .now)))) (crewsFrom (a .staff .now) (a .sets .now) (a .mark) 0) (a .out .now) (a .at) (a .out .now) (a .at) =
+    let first : SoFar (marked (a .mark) betweenCrews (map (setText (a .staff .now)) (filled (a .sets .now)))) (crewsFrom (a .staff .now) (a .sets .now) (a .mark) 0) (a .out .now) (a .at) (a .out .now) (a .at) =
     begin _ _ _ in
     first
 
@@ -53,7 +53,7 @@ crew : (c : tie.After-shared-slice-known3 Inv-loop μ-loop)
     → let l = c .before .before .before .before .before .loop in
     let a = c .before .before .before .before .before .before .before .before .args in
     crewsFrom (a .staff .now) (a .sets .now) (l .before) (l .j)
-    ≡ marked (l .before) comma (names (a .staff .now) (getD (a .sets .now) (l .j) 0)) ++ crewsFrom (a .staff .now) (a .sets .now) slash (suc (l .j))
+    ≡ marked (l .before) betweenMembers (names (a .staff .now) (getD (a .sets .now) (l .j) 0)) ++ crewsFrom (a .staff .now) (a .sets .now) betweenCrews (suc (l .j))
 crew c =
     let l = c .before .before .before .before .before .loop in
     let a = c .before .before .before .before .before .before .before .before .args in
@@ -61,12 +61,7 @@ crew c =
     (c .shared-slice-known3 .given (l .j) .fits) (c .before .before .if1 .left)
 
 members-requires : tie.Need-members-requires Inv-loop μ-loop
-members-requires c κs =
-    let l = c .before .before .before .before .before .loop in
-    let s = c .before .before .before .before .before .before .before .before in
-    let a = s .args in
-    fits (marked (l .before) comma (names (a .staff .now) (getD (a .sets .now) (l .j) 0))) (crewsFrom (a .staff .now) (a .sets .now) slash (suc (l .j)))
-    (with-rest (crew c) (l .inv)) (s .pre)
+members-requires c κs = tt
 
 add-j : tie.Need-add-j Inv-loop μ-loop
 add-j c = omega arith
@@ -79,7 +74,7 @@ loop-again c =
     let p = c .before .before .before in
     let l = p .before .before .before .before .before .loop in
     let a = p .before .before .before .before .before .before .before .before .args in
-    with-rest (ap (crewsFrom (a .staff .now) (a .sets .now) slash) (sym (add-one (l .j))))
+    with-rest (ap (crewsFrom (a .staff .now) (a .sets .now) betweenCrews) (sym (add-one (l .j))))
     (step _ (with-rest (crew p) (l .inv)) (c .before .before .members .ensures))
 
 same-length-2 : tie.Need-same-length-2 Inv-loop μ-loop

@@ -3,30 +3,26 @@ use mathlib.Core.Path.{_≡_, sym, ap, _∙_}
 use mathlib.Core.Logic.{_≢_}
 use mathlib.Core.List.{List, [], _∷_}
 use Prim.Native.Nat.{ℕ, _^_, _<_}
-use Rattle.lines.specs.Text.{space, comma, dash, marked, joined}
-use Rattle.lines.specs.Lines.{names, setText}
-use Rattle.lines.proofs.Appends.{read-as, room-as}
+use Rattle.text.specs.Text.{space, dash, marked, joined}
+use Rattle.lines.specs.Lines.{names, betweenMembers, setText}
+use Rattle.text.specs.Laws.Appends.{read-as}
 use Rattle.lines.proofs.Walk.{names-none, some-names, mark-joined}
 use borrow.Author.Needs.{needs}
-use Rattle.lines.proofs.text.one_set.Statement.{statement}
-use Rattle.lines.proofs.text.one_set.Tie as tie
+use Rattle.lines.proofs.field.one_set.Statement.{statement}
+use Rattle.lines.proofs.field.one_set.Tie as tie
 
 empty : (staff : List ℕ) (set : ℕ) → set ≡ 0 → space ∷ setText staff set ≡ space ∷ dash ∷ []
 unfolding joined
-empty staff set e = ap (λ (l : List (List ℕ)). space ∷ joined comma l) (ap (names staff) e ∙ names-none staff)
+empty staff set e = ap (λ (l : List (List ℕ)). space ∷ joined betweenMembers l) (ap (names staff) e ∙ names-none staff)
 
-some : (staff : List ℕ) (set : ℕ) → set < 2 ^ 64 → set ≢ 0 → space ∷ setText staff set ≡ marked space comma (names staff set)
-some staff set h n = mark-joined space comma (names staff set) (some-names staff set h n)
+some : (staff : List ℕ) (set : ℕ) → set < 2 ^ 64 → set ≢ 0 → space ∷ setText staff set ≡ marked space betweenMembers (names staff set)
+some staff set h n = mark-joined space betweenMembers (names staff set) (some-names staff set h n)
 
 no-set-requires : tie.Need-no-set-requires
-no-set-requires c κs =
-    let s = c .before .before .before in
-    room-as (s .args .out .now) (s .args .at) (empty (s .args .staff .now) (s .args .set) (c .before .if1 .taken)) (s .pre)
+no-set-requires c κs = search needs
 
 members-requires : tie.Need-members-requires
-members-requires c κs =
-    let s = c .before .before .before in
-    room-as (s .args .out .now) (s .args .at) (some (s .args .staff .now) (s .args .set) (s .fits .set .fits) (c .before .if1 .left)) (s .pre)
+members-requires c κs = search needs
 
 same-length : tie.Need-same-length
 same-length c = search needs

@@ -5,13 +5,13 @@ use mathlib.Core.List.{List, [], _∷_, map}
 use Prim.Native.Nat.{ℕ, zero, suc}
 use native.Mathlib.Omega.{arith}
 use lib.ListN.{length, getD}
-use Rattle.lines.specs.Text.{space, slash, dash, marked, joined}
-use Rattle.lines.specs.Lines.{setText, filled, crewsText}
-use Rattle.lines.proofs.Appends.{read-as, room-as}
+use Rattle.text.specs.Text.{space, dash, marked, joined}
+use Rattle.lines.specs.Lines.{setText, filled, betweenCrews, crewsText}
+use Rattle.text.specs.Laws.Appends.{read-as}
 use Rattle.lines.proofs.Walk.{mark-joined}
 use borrow.Author.Needs.{needs}
-use Rattle.lines.proofs.text.all_crews.Statement.{statement}
-use Rattle.lines.proofs.text.all_crews.Tie as tie
+use Rattle.lines.proofs.field.all_crews.Statement.{statement}
+use Rattle.lines.proofs.field.all_crews.Tie as tie
 
 none : (staff sets : List ℕ) → length sets ≡ 0 → space ∷ crewsText staff sets ≡ space ∷ dash ∷ []
 unfolding joined filled
@@ -25,16 +25,14 @@ empty staff (zero ∷ l) e = refl
 empty staff (suc x ∷ l) e = absurd (omega arith)
 
 some : (staff sets : List ℕ) → getD sets 0 0 ≢ 0
-    → space ∷ crewsText staff sets ≡ marked space slash (map (setText staff) (filled sets))
+    → space ∷ crewsText staff sets ≡ marked space betweenCrews (map (setText staff) (filled sets))
 unfolding filled
 some staff [] n = absurd (n refl)
 some staff (zero ∷ l) n = absurd (n refl)
-some staff (suc x ∷ l) n = mark-joined space slash (map (setText staff) (suc x ∷ filled l)) (λ z. omega arith)
+some staff (suc x ∷ l) n = mark-joined space betweenCrews (map (setText staff) (suc x ∷ filled l)) (λ z. omega arith)
 
 no-set-requires : tie.Need-no-set-requires
-no-set-requires c κs =
-    let s = c .before .before .before .before in
-    room-as (s .args .out .now) (s .args .at) (none (s .args .staff .now) (s .args .sets .now) (c .before .if1 .taken)) (s .pre)
+no-set-requires c κs = search needs
 
 same-length : tie.Need-same-length
 same-length c = search needs
@@ -49,9 +47,7 @@ shared-slice-read-if2 : tie.Need-shared-slice-read-if2
 shared-slice-read-if2 c = search needs
 
 no-set-requires-2 : tie.Need-no-set-requires-2
-no-set-requires-2 c κs =
-    let s = c .before .before .before .before .before .before in
-    room-as (s .args .out .now) (s .args .at) (empty (s .args .staff .now) (s .args .sets .now) (c .before .if2 .taken)) (s .pre)
+no-set-requires-2 c κs = search needs
 
 same-length-2 : tie.Need-same-length-2
 same-length-2 c = search needs
@@ -63,9 +59,7 @@ returns-2 c =
     read-as (sym (empty (a .staff .now) (a .sets .now) (p .if2 .taken))) (c .before .before .no-set2 .ensures)
 
 crews-requires : tie.Need-crews-requires
-crews-requires c κs =
-    let s = c .before .before .before .before .before .before in
-    room-as (s .args .out .now) (s .args .at) (some (s .args .staff .now) (s .args .sets .now) (c .before .if2 .left)) (s .pre)
+crews-requires c κs = search needs
 
 same-length-3 : tie.Need-same-length-3
 same-length-3 c = search needs

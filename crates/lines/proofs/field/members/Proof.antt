@@ -7,19 +7,19 @@ use lib.Bits.{bitXor}
 use lib.Count.{ones}
 use lib.ListN.{getD}
 use Rattle.sets.specs.Sets.{Least, trailing-least, drop-lt, ones-drop}
-use Rattle.lines.specs.Text.{comma, decimal, marked}
-use Rattle.lines.specs.Lines.{names}
-use Rattle.lines.proofs.Appends.{SoFar, begin, step, fits, with-rest, finish, same}
+use Rattle.text.specs.Text.{decimal, marked}
+use Rattle.lines.specs.Lines.{names, betweenMembers}
+use Rattle.text.specs.Laws.Appends.{SoFar, begin, step, with-rest, finish, same}
 use Rattle.lines.proofs.Walk.{member-next, member-last}
-use Rattle.lines.proofs.text.members.Statement.{statement}
-use Rattle.lines.proofs.text.members.Tie as tie
+use Rattle.lines.proofs.field.members.Statement.{statement}
+use Rattle.lines.proofs.field.members.Tie as tie
 
 ne-zero : {n : ℕ} → (n ≡ 0 → ⊥) → 0 < n
 ne-zero h = omega arith
 
 abbrev Inv-loop : tie.InvT-loop
 Inv-loop out₀ at staff mark set next₀ before₀ left₀ out next before left =
-    (left < 2 ^ 64) × SoFar (marked mark comma (names staff set)) (marked before comma (names staff left)) out₀ at out next
+    (left < 2 ^ 64) × SoFar (marked mark betweenMembers (names staff set)) (marked before betweenMembers (names staff left)) out₀ at out next
 
 abbrev μ-loop : tie.MeasureT-loop
 μ-loop out₀ at staff mark set next₀ before₀ left₀ out next before left = ones left
@@ -41,8 +41,8 @@ next-left : (c : tie.After-least Inv-loop μ-loop)
     → let l = c .before .before .loop in
     let a = c .before .before .before .before .args in
     let row = c .least .result in
-    SoFar (marked (a .mark) comma (names (a .staff .now) (a .set)))
-    ((l .before ∷ decimal (getD (a .staff .now) row 0)) ++ marked comma comma (names (a .staff .now) (bitXor (l .left) (2 ^ row)))) (a .out .now) (a .at)
+    SoFar (marked (a .mark) betweenMembers (names (a .staff .now) (a .set)))
+    ((l .before ∷ decimal (getD (a .staff .now) row 0)) ++ marked betweenMembers betweenMembers (names (a .staff .now) (bitXor (l .left) (2 ^ row)))) (a .out .now) (a .at)
     (l .out) (l .next)
 next-left c =
     let l = c .before .before .loop in
@@ -53,14 +53,7 @@ cast-member : tie.Need-cast-member Inv-loop μ-loop
 cast-member c = omega (arith, least-left (c .before) .below)
 
 member-requires : tie.Need-member-requires Inv-loop μ-loop
-member-requires c κs =
-    let l = c .before .before .before .loop in
-    let s = c .before .before .before .before .before in
-    let row = c .before .least .result in (
-      least-left (c .before) .below,
-      fits (l .before ∷ decimal (getD (s .args .staff .now) row 0)) (marked comma comma (names (s .args .staff .now) (bitXor (l .left) (2 ^ row))))
-          (next-left (c .before)) (s .pre),
-    )
+member-requires c κs = least-left (c .before) .below
 
 without-requires : tie.Need-without-requires Inv-loop μ-loop
 without-requires c κs = least-left (c .before .before .before .before) .below
@@ -76,7 +69,7 @@ loop-again c =
     let l = p .before .before .loop in
     let staff = p .before .before .before .before .args .staff .now in (
       rw (c .without .ensures) (drop-lt 64 (l .left) (p .least .result) (l .inv .0) (least-left p .has)),
-      with-rest (ap (λ (m : ℕ). marked comma comma (names staff m)) (sym (c .without .ensures)))
+      with-rest (ap (λ (m : ℕ). marked betweenMembers betweenMembers (names staff m)) (sym (c .without .ensures)))
           (step _ (next-left p) (c .before .before .before .member .ensures)),
     )
 
@@ -89,7 +82,7 @@ returns c =
     let s = c .before .before .before in
     finish
     (with-rest
-    (ap (λ (m : ℕ). marked (l .before) comma (names (s .args .staff .now) m)) (c .loop-test .left) ∙ member-last (s .args .staff .now) (l .before))
+    (ap (λ (m : ℕ). marked (l .before) betweenMembers (names (s .args .staff .now) m)) (c .loop-test .left) ∙ member-last (s .args .staff .now) (l .before))
     (l .inv .1))
 
 pub members-spec : {M : Type 1} → statement M

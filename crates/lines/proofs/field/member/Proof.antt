@@ -1,12 +1,12 @@
 -- The number is the one that stands at the row. Assumes nothing.
-use mathlib.Core.Path.{sym, ap}
+use mathlib.Core.Path.{ap}
 use mathlib.Core.List.{_∷_}
 use Prim.Native.Nat.{ℕ}
-use Rattle.lines.specs.Text.{decimal}
-use Rattle.lines.proofs.Appends.{read-as, room-as}
+use Rattle.text.specs.Text.{decimal}
+use Rattle.text.specs.Laws.Appends.{read-as}
 use borrow.Author.Needs.{needs}
-use Rattle.lines.proofs.text.member.Statement.{statement}
-use Rattle.lines.proofs.text.member.Tie as tie
+use Rattle.lines.proofs.field.member.Statement.{statement}
+use Rattle.lines.proofs.field.member.Tie as tie
 
 mul-wide : tie.Need-mul-wide
 mul-wide c = search needs
@@ -18,9 +18,7 @@ wide-requires : tie.Need-wide-requires
 wide-requires c κs = search needs
 
 number-requires : tie.Need-number-requires
-number-requires c κs =
-    let s = c .before .before .before .before in
-    room-as (s .args .out .now) (s .args .at) (ap (λ (n : ℕ). s .args .mark ∷ decimal n) (sym (c .wide .ensures))) (s .pre .1)
+number-requires c κs = search needs
 
 same-length : tie.Need-same-length
 same-length c = search needs
