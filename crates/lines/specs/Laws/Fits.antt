@@ -121,12 +121,12 @@ words Crews = omega arith
 words None = omega arith
 words (Refused refusal) = omega arith
 
-line-length : (staff : List ℕ) (index : ℕ) (reply : Reply) → index < 100 → reply .units ≤ 1000000
+line-length : (staff : List ℕ) (index : ℕ) (reply : Reply) → index < 100 → reply .units < 10 ^ 7
     → length (setsText staff reply (reply .verdict)) ≤ 704 → length (lineOf staff index reply) ≤ 726
 unfolding lineOf joined marked
 line-length staff index reply i u s =
     simp length-append
-    (omega (arith, decimal-length 1 index i, words (reply .verdict), decimal-length 6 (reply .units) (omega arith)))
+    (omega (arith, decimal-length 1 index i, words (reply .verdict), decimal-length 6 (reply .units) u))
 
 -- ---- the line of a policy's reply
 
@@ -166,7 +166,7 @@ module _ (staff : List ℕ) (fits : (row : ℕ) → getD staff row 0 < 2 ^ 32) (
       may = policy-allowed way table P s d t wide allowance
 
       by : {q : Reply} → r ≡ q → q .units ≤ allowance → length (setsText staff q (q .verdict)) ≤ 704 → length (lineOf staff index r) ≤ 726
-      by {q} e u l = subst (λ (x : Reply). length (lineOf staff index x) ≤ 726) (sym e) (line-length staff index q early u l)
+      by {q} e u l = subst (λ (x : Reply). length (lineOf staff index x) ≤ 726) (sym e) (line-length staff index q early (omega arith) l)
 
       go : Case way table P s d t allowance → length (lineOf staff index r) ≤ 726
       go (is-refused refusal e) = by (may .refused refusal e) (omega arith) (omega arith)

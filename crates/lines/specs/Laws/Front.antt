@@ -6,10 +6,10 @@ use mathlib.Core.List.{List}
 use Prim.Native.Nat.{ℕ, _≤_}
 use native.Mathlib.Omega.{arith}
 use lib.ListN.{length, take}
-use lib.Seq.{take-all}
+use lib.Seq.{take-all, take-take}
 use borrow.Author.Tests.{ltb-false}
 use Rattle.roster.specs.Laws.Rulings.{inside}
-use Rattle.book.specs.Reading.{countAt, past}
+use Rattle.book.specs.Reading.{countAt, past, readOf}
 use Rattle.book.specs.Laws.Books.{rowsAt, policiesAt, BookSound, Good, Refused, reply}
 use Rattle.book.specs.Laws.Prefix.{prefix-reply}
 use Rattle.lines.specs.Sheet.{sheetBy, sheetOf, enough}
@@ -23,6 +23,10 @@ sound-short book s =
     let asked : countAt book (policiesAt book) ≤ 32 = ltb-false 32 (countAt book (policiesAt book)) (s .third .inRange) in
     omega (arith, s .ends)
 
+-- the reply to a front of at least 804 bytes
+front-reply : (n : ℕ) (book : List ℕ) → 804 ≤ n → readOf (take n book) ≡ readOf book
+front-reply n book h = prefix-reply (take n book) ∙ ap readOf (take-take 804 n book h) ∙ sym (prefix-reply book)
+
 -- the sheet of any string is that of its front
 pub sheet-front : (book : List ℕ) → sheetOf (take enough book) ≡ sheetOf book
 unfolding sheetOf sheetBy
@@ -33,4 +37,4 @@ sheet-front book = ⊎-elim good refused (reply book)
 
     refused : Refused book → sheetOf (take enough book) ≡ sheetOf book
     refused r =
-        ap (sheetBy (take enough book)) (sym (prefix-reply book) ∙ r .reply) ∙ sym (ap (sheetBy book) (r .reply))
+        ap (sheetBy (take enough book)) (front-reply enough book (omega arith) ∙ r .reply) ∙ sym (ap (sheetBy book) (r .reply))
