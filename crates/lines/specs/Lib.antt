@@ -1,5 +1,5 @@
 pub mod Lines
 pub mod Sheet
-pub mod BookB
 pub mod Examples
+pub mod BookB
 pub mod Laws

@@ -23,23 +23,25 @@ verdictWord (Refused refusal) = []
 unfoldable pub names : List ℕ → ℕ → List (List ℕ)
 names staff set = map (λ row. decimal (getD staff row 0)) (members 0 rowLimit set)
 
--- "joined by `,`"; "an empty blocker .. print `-`"
+-- "joined by `,`"
 abbrev pub betweenMembers : ℕ
 betweenMembers = comma
 
+-- "an empty blocker .. print `-`"
 abbrev pub setText : List ℕ → ℕ → List ℕ
 setText staff set = joined betweenMembers (names staff set)
 
--- "Crews are eight sets; those past d are 0": those before the first that is empty, in the order filled
+-- "Crews are eight sets; those past d are 0": those before the first that is empty
 unfoldable pub filled : List ℕ → List ℕ
 filled [] = []
 filled (zero ∷ l) = []
 filled (suc crew ∷ l) = suc crew ∷ filled l
 
--- "crews are joined by `/` in the order filled"
+-- "crews are joined by `/`"
 abbrev pub betweenCrews : ℕ
 betweenCrews = slash
 
+-- "in the order filled"
 abbrev pub crewsText : List ℕ → List ℕ → List ℕ
 crewsText staff crews = joined betweenCrews (map (setText staff) (filled crews))
 
