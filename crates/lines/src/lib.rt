@@ -19,10 +19,12 @@ ghost use Rattle.absences.specs.Replied.{policyReplyOf};
 ghost use Rattle.book.specs.Parts.{staffAt, tableOf, policyCount, policyAt};
 ghost use Rattle.lines.specs.Text.{Room, Appended, space};
 ghost use Rattle.lines.specs.Lines.{verdictWord, setsText, lineOf, badLine};
-ghost use Rattle.lines.specs.Sheet.{allowance, way, staffOr0, staffOf, lineBy, linesFrom, longest, Promised};
+ghost use Rattle.lines.specs.Sheet.{allowance, way, staffOr0, staffOf, lineBy, linesFrom, longest, enough, Promised};
 
 // No sheet is longer: 32 lines of at most 726 bytes each.
 pub const LONGEST: usize = 23232;
+// So many bytes of an input decide its sheet: one more than the longest book has.
+pub const ENOUGH: usize = 804;
 // The units that each policy may take.
 const ALLOWANCE: u32 = 1000000;
 
@@ -185,7 +187,7 @@ fn all_lines(book: &[u8], out: &mut [u8]) -> usize
 pub fn sheet(book: &[u8], out: &mut [u8]) -> Writing
     ensures sheet { λ r. ⌜ Promised (now (book .entry)) (now (out .entry)) (now (out .exit)) r ⌝ }
     ensures kept { λ _. ⌜ now (book .exit) ≡ now (book .entry) ⌝ }
-    ensures limit { λ _. do ⌜ (← ⟦LONGEST⟧ .entry) ≡ longest ⌝ }
+    ensures limit { λ _. do ⌜ ((← ⟦LONGEST⟧ .entry) ≡ longest) × ((← ⟦ENOUGH⟧ .entry) ≡ enough) ⌝ }
 {
     if out.len() < LONGEST {
         return Writing::TooShort;
