@@ -1,52 +1,75 @@
-// The program: a roster book from standard input, its sheet to standard output. All that can be right or wrong of the sheet is said in `lines`.
+// The program: a roster book from standard input, its sheet to standard output; if the input cannot be read or the sheet cannot be written, a line
+// on standard error that says so. All that can be right or wrong of the sheet is said in `lines`, all else in specs/: what a read's answer means
+// (Input), and which bytes go to which stream (Said). `main` does just that.
+mod input;
+
+use input::Progress;
 use lines::Writing;
-ghost use Rattle.sheet.specs.Input.{Within};
+ghost use Prim.Native.Nat.{_≤_};
+ghost use lib.ListN.{length};
+ghost use Rattle.lines.specs.Sheet.{longest};
+ghost use Rattle.sheet.specs.Input.{Settled};
+ghost use Rattle.sheet.specs.Said.{errors, unwritable, streamOf, textOf, Says};
 
-// One byte more than the longest book: the sheet of any input is that of its first 804 bytes (`sheet-front` in `lines`).
-const ENOUGH: usize = 804;
-
-// What reading comes to: how many bytes stand at the front of the buffer, or that a read failed, and then there is no book.
-pub enum Input {
-    Read(usize),
-    Failed,
+// What is to be written: so many bytes from the front of the buffer, to this stream.
+struct Said {
+    stream: i32,
+    length: usize,
 }
 
-// Reads until the buffer is full or the input ends.
-fn read_book(book: &mut [u8]) -> Input
-    ensures { λ r. ⌜ Within r (now (book .exit)) ⌝ }
+// A complaint, which goes to standard error.
+fn complaint(text: &[u8], out: &mut [u8]) -> Said
+    requires { ⌜ length (now text) ≤ length (now out) ⌝ }
+    ensures { λ r. ⌜ Says errors (now (text .entry)) (now (out .entry)) (now (out .exit)) r ⌝ }
 {
-    let mut have = 0;
-    while have < book.len() {
-        let got = libc::read(libc::STDIN_FILENO, &mut book[have..]);
-        if got < 0 {
-            return Input::Failed;
-        }
-        let more = io::count(got, &book[have..]);
-        if more == 0 {
-            return Input::Read(have);
-        }
-        have += more;
+    let length = bytes::copy(text, out);
+    Said {
+        stream: libc::STDERR_FILENO,
+        length: length,
     }
-    Input::Read(have)
+}
+
+// What is said of the input that was read: the sheet of a whole one, else a complaint.
+fn answer(book: &[u8], input: Progress, out: &mut [u8]) -> Said
+    requires { ⌜ Settled input (now book) × (longest ≤ length (now out)) ⌝ }
+    ensures { λ r. ⌜ Says (streamOf input) (textOf (now (book .entry)) input) (now (out .entry)) (now (out .exit)) r ⌝ }
+{
+    let Progress::Whole(size) = input else {
+        return complaint(b"sheet: standard input cannot be read\n", out);
+    };
+    let written = match lines::sheet(&book[..size], out) {
+        Writing::Written(length) => length,
+        Writing::TooShort => 0,
+    };
+    Said {
+        stream: libc::STDOUT_FILENO,
+        length: written,
+    }
+}
+
+// What is said where writing failed.
+fn unwritten(out: &mut [u8]) -> Said
+    requires { ⌜ longest ≤ length (now out) ⌝ }
+    ensures { λ r. ⌜ Says errors unwritable (now (out .entry)) (now (out .exit)) r ⌝ }
+{
+    complaint(b"sheet: the output cannot be written\n", out)
+}
+
+// Writes what is said, and answers whether all of it was written.
+fn write(said: Said, out: &[u8]) -> bool
+    requires { ⌜ said .length ≤ length (now out) ⌝ }
+{
+    let length = said.length;
+    io::write_all(said.stream, &out[..length])
 }
 
 fn main() {
-    let mut book = [0u8; ENOUGH];
-    let Input::Read(size) = read_book(&mut book) else {
-        io::write_all(
-            libc::STDERR_FILENO,
-            b"sheet: standard input cannot be read\n",
-        );
-        return;
-    };
+    let mut book = [0u8; lines::ENOUGH];
+    let input = input::read_book(&mut book);
     let mut out = [0u8; lines::LONGEST];
-    let Writing::Written(length) = lines::sheet(&book[..size], &mut out) else {
-        return;
-    };
-    if !io::write_all(libc::STDOUT_FILENO, &out[..length]) {
-        io::write_all(
-            libc::STDERR_FILENO,
-            b"sheet: standard output cannot be written\n",
-        );
+    let said = answer(&book, input, &mut out);
+    if !write(said, &out) {
+        let sorry = unwritten(&mut out);
+        write(sorry, &out);
     }
 }

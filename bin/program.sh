@@ -1,0 +1,50 @@
+# For the scripts that run a program of this repository, which source it. A program is proved and built once, and again when its sources have
+# changed; what is told of that goes to standard error. Needs the kit: rt on the path, or RATTLE_HOME.
+set -eu
+
+script=$(basename "$0")
+root=$(dirname "$(dirname "$(readlink -f "$0")")")
+
+die() { printf '%s: %s\n' "$script" "$*" >&2; exit 1; }
+
+# Sets `kit`, and says so where it is not the one that the project is proved with.
+find_kit() {
+    if [ -n "${RATTLE_HOME:-}" ]; then
+        kit=$RATTLE_HOME
+    else
+        rt=$(command -v rt) || die "the kit is not there: put its rt on the path, or set RATTLE_HOME"
+        kit=$(dirname "$(dirname "$(readlink -f "$rt")")")
+    fi
+    proved_with=$(cat "$root/KIT")
+    found=$("$kit/bin/rt" version) || die "the kit at $kit does not say which it is"
+    [ "$found" = "$proved_with" ] || printf '%s: the kit is %s; the project is proved with %s\n' "$script" "$found" "$proved_with" >&2
+}
+
+# The program is as new as the last of the sources that crates.txt and crates/ have.
+build() { # NAME
+    built=$root/target/bin/$1.built
+    [ -x "$root/target/bin/$1" ] && [ -f "$built" ] \
+        && [ -z "$(find "$root/crates.txt" "$root"/crates/*/src "$root"/crates/*/specs "$root"/crates/*/proofs -newer "$built" 2>/dev/null | head -n 1)" ] \
+        && return
+    printf '%s: proving and building the program; this takes minutes, once\n' "$script" >&2
+    mkdir -p "$root/target/log"
+    log=$root/target/log/$1.build
+    (cd "$root" && "$kit/bin/rt" check "$1") >"$log" 2>&1 </dev/null || { tail -n 20 "$log" >&2; die "the program could not be proved and built; $log has it all"; }
+    : >"$built"
+}
+
+# Runs the program on standard input and ends with status 0, or 1 if it complains or does not end by itself: a program has no status of its own,
+# and what it complains of goes to standard error, where it says nothing else. It is a program for x86-64 and runs under the kit's loader and C
+# library; on another processor the kit has an emulator beside its compiler.
+run() { # NAME
+    tools=$kit/on/$(uname -m)/toolchain
+    loader=$tools/lib/ld-linux-x86-64.so.2 emulator=$tools/bin/qemu-x86_64
+    [ -x "$emulator" ] || emulator=''
+    # a closed stream is told here: the pipe below could take its place
+    (: 3<&0) 2>/dev/null || die "standard input cannot be read"
+    (: 3>&1) 2>/dev/null || die "the output cannot be written"
+    status=0
+    { complaint=$(${emulator:+"$emulator"} "$loader" --library-path "$tools/lib" "$root/target/bin/$1" 2>&1 >&3 3>&-) || status=1; } 3>&1
+    [ -z "$complaint" ] || { status=1; printf '%s\n' "$complaint" >&2 || :; }
+    exit "$status"
+}
