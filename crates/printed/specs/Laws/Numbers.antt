@@ -1,0 +1,36 @@
+-- A number in decimal has digits and no mark, and no two are written alike. Assumes nothing.
+use mathlib.Core.Path.{_≡_, refl, sym, ap, _∙_, subst}
+use mathlib.Core.Logic.{_≢_}
+use mathlib.Core.List.{List, [], _∷_, _++_, List·Memᴰ, List·Memᴰ·head}
+use Prim.Native.Nat.{ℕ, zero, suc, _+_, _/_, _%_, _≤_, _<_}
+use native.Mathlib.Decide.{decLt}
+use native.Mathlib.Omega.{arith}
+use Rattle.lines.specs.Text.{digit, dash, decimal}
+use Rattle.lines.specs.Laws.Decimal.{decimal-small, decimal-large, worth, decimal-value}
+use Rattle.printed.specs.Cut.{Lacks}
+use Rattle.printed.specs.Laws.Marks.{lacks-none, lacks-cons, lacks-append}
+
+-- a number in decimal has no byte below the digits; all marks are there
+pub decimal-lacks : (mark n : ℕ) → mark < 48 → Lacks mark (decimal n)
+decimal-lacks mark n low = upTo (suc n) n (omega arith)
+  where
+    one : (d : ℕ) → Lacks mark (digit d ∷ [])
+    one d = lacks-cons mark (digit d) [] (λ e. omega arith) (lacks-none mark)
+
+    upTo : (k n : ℕ) → n < k → Lacks mark (decimal n)
+    upTo zero n h = absurd (omega arith)
+    upTo (suc k) n h = go (decLt n 10) (upTo k (n / 10))
+      where
+        go : Dec (n < 10) → (n / 10 < k → Lacks mark (decimal (n / 10))) → Lacks mark (decimal n)
+        go (yes l) ih = subst (Lacks mark) (sym (decimal-small n l)) (one n)
+        go (no m) ih =
+            subst (Lacks mark) (sym (decimal-large n (omega arith)))
+            (lacks-append mark (decimal (n / 10)) (digit (n % 10) ∷ []) (ih (omega arith)) (one (n % 10)))
+
+-- so it is no dash
+pub decimal-no-dash : (n : ℕ) → decimal n ≢ dash ∷ []
+decimal-no-dash n e = decimal-lacks dash n (omega arith) (subst (λ (l : List ℕ). List·Memᴰ dash l) (sym e) (List·Memᴰ·head refl))
+
+-- a number can be read back
+pub decimal-same : (m n : ℕ) → decimal m ≡ decimal n → m ≡ n
+decimal-same m n e = sym (decimal-value m) ∙ ap (worth 0) e ∙ decimal-value n

@@ -1,0 +1,1 @@
+// What the printed words mean: theorems alone, no function.
