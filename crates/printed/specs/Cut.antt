@@ -3,7 +3,12 @@ use mathlib.Core.Bool.{true, false}
 use mathlib.Core.List.{List, [], _∷_, _++_, List·Memᴰ}
 use Prim.Native.Nat.{ℕ}
 use lib.Dec.{eqb}
-use Rattle.lines.specs.Text.{newline}
+use Rattle.lines.specs.Text.{space, newline}
+
+infixr 5 _␣_
+-- a word, one space, and what follows it
+abbrev pub _␣_ : List ℕ → List ℕ → List ℕ
+word ␣ rest = word ++ (space ∷ rest)
 
 -- this byte is not in the text
 abbrev pub Lacks : ℕ → List ℕ → Type 0

@@ -1,17 +1,17 @@
 -- A text is taken apart at a mark in one way only. Assumes nothing.
 use mathlib.Core.Path.{_≡_, refl, sym, ap, ap₂, _∙_, subst}
-use mathlib.Core.Bool.{Bool, true, false}
+use mathlib.Core.Bool.{Bool, true, false, _&&_}
 use mathlib.Core.Logic.{_⊎_, inl, inr, ⊎-elim, _≢_}
 use mathlib.Core.List.{List, [], _∷_, _++_, map, append-nil, List·Memᴰ, List·Memᴰ·head, List·Memᴰ·tail, List·Memᴰ·cases-cons, List·Memᴰ·not-nil, List·Memᴰ·append-cases, head-eq-of-cons-eq, tail-eq-of-cons-eq}
 use Prim.Native.Nat.{ℕ, zero, suc, _+_, _≤_, _<_}
 use native.Mathlib.Decide.{ℕ-discrete}
 use native.Mathlib.Omega.{arith}
-use lib.Dec.{eqb}
+use lib.Dec.{eqb, ltb}
 use lib.ListN.{length, length-append}
-use borrow.Author.Tests.{eq-eqb, ne-eqb, eqb-true, eqb-false}
-use Rattle.lines.specs.Text.{newline, dash, marked, joined}
+use borrow.Author.Tests.{eq-eqb, ne-eqb, ltb-true}
+use Rattle.lines.specs.Text.{space, newline, dash, marked, joined}
 use Rattle.printed.specs.Laws.Every.{every-none, every-cons, every-first, every-rest}
-use Rattle.printed.specs.Cut.{Every, Lacks, longer, linesOf, ended}
+use Rattle.printed.specs.Cut.{_␣_, Every, Lacks, longer, linesOf, ended}
 
 -- ---- what lacks a mark
 
@@ -23,6 +23,24 @@ lacks-cons mark c text n l m = ⊎-elim n l (List·Memᴰ·cases-cons m)
 
 pub lacks-append : (mark : ℕ) (a b : List ℕ) → Lacks mark a → Lacks mark b → Lacks mark (a ++ b)
 lacks-append mark a b l k m = ⊎-elim l k (List·Memᴰ·append-cases a m)
+
+-- a word, a space and what follows it
+pub lacks-word : {a b : List ℕ} (mark : ℕ) → mark ≢ space → Lacks mark a → Lacks mark b → Lacks mark (a ␣ b)
+lacks-word {a} {b} mark n l k = lacks-append mark a (space ∷ b) l (lacks-cons mark space b n k)
+
+-- a text whose bytes all lie above a number has no mark up to that number: for words, by computing
+unfoldable pub over : ℕ → List ℕ → Bool
+over most [] = true
+over most (c ∷ text) = ltb most c && over most text
+
+pub lacks-over : (most mark : ℕ) (text : List ℕ) → mark ≤ most → over most text ≡ true → Lacks mark text
+unfolding over
+lacks-over most mark [] l e = lacks-none mark
+lacks-over most mark (c ∷ text) l e = go (ltb most c) refl e (lacks-over most mark text l)
+  where
+    go : (b : Bool) → ltb most c ≡ b → (b && over most text) ≡ true → (over most text ≡ true → Lacks mark text) → Lacks mark (c ∷ text)
+    go true p q ih = lacks-cons mark c text (λ m. omega (arith, ltb-true most c p)) (ih q)
+    go false p q ih = let z : _≡_ {A = ℕ} 0 1 = cc in absurd (omega arith)
 
 -- ---- the first mark
 

@@ -10,26 +10,30 @@ use Rattle.lines.specs.Laws.Decimal.{decimal-small, decimal-large, worth, decim
 use Rattle.printed.specs.Cut.{Lacks}
 use Rattle.printed.specs.Laws.Marks.{lacks-none, lacks-cons, lacks-append}
 
--- a number in decimal has no byte below the digits; all marks are there
-pub decimal-lacks : (mark n : ℕ) → mark < 48 → Lacks mark (decimal n)
-decimal-lacks mark n low = upTo (suc n) n (omega arith)
+-- this byte is no digit
+abbrev pub NoDigit : ℕ → Type 0
+NoDigit mark = (d : ℕ) → d < 10 → mark ≢ digit d
+
+-- a number in decimal has digits only
+pub decimal-lacks : (mark n : ℕ) → NoDigit mark → Lacks mark (decimal n)
+decimal-lacks mark n none = upTo (suc n) n (omega arith)
   where
-    one : (d : ℕ) → Lacks mark (digit d ∷ [])
-    one d = lacks-cons mark (digit d) [] (λ e. omega arith) (lacks-none mark)
+    one : (d : ℕ) → d < 10 → Lacks mark (digit d ∷ [])
+    one d l = lacks-cons mark (digit d) [] (none d l) (lacks-none mark)
 
     upTo : (k n : ℕ) → n < k → Lacks mark (decimal n)
     upTo zero n h = absurd (omega arith)
     upTo (suc k) n h = go (decLt n 10) (upTo k (n / 10))
       where
         go : Dec (n < 10) → (n / 10 < k → Lacks mark (decimal (n / 10))) → Lacks mark (decimal n)
-        go (yes l) ih = subst (Lacks mark) (sym (decimal-small n l)) (one n)
+        go (yes l) ih = subst (Lacks mark) (sym (decimal-small n l)) (one n l)
         go (no m) ih =
             subst (Lacks mark) (sym (decimal-large n (omega arith)))
-            (lacks-append mark (decimal (n / 10)) (digit (n % 10) ∷ []) (ih (omega arith)) (one (n % 10)))
+            (lacks-append mark (decimal (n / 10)) (digit (n % 10) ∷ []) (ih (omega arith)) (one (n % 10) (omega arith)))
 
 -- so it is no dash
 pub decimal-no-dash : (n : ℕ) → decimal n ≢ dash ∷ []
-decimal-no-dash n e = decimal-lacks dash n (omega arith) (subst (λ (l : List ℕ). List·Memᴰ dash l) (sym e) (List·Memᴰ·head refl))
+decimal-no-dash n e = decimal-lacks dash n (λ d l q. omega arith) (subst (λ (l : List ℕ). List·Memᴰ dash l) (sym e) (List·Memᴰ·head refl))
 
 -- a number can be read back
 pub decimal-same : (m n : ℕ) → decimal m ≡ decimal n → m ≡ n

@@ -1,0 +1,57 @@
+-- What stands on a sheet, in the words of the book that it is printed from. Nothing here is proved: these are definitions.
+use mathlib.Core.Path.{_≡_}
+use mathlib.Core.Option.{Option, some, none}
+use mathlib.Core.List.{List, [], _∷_, _++_, map}
+use Prim.Native.Nat.{ℕ, _<_}
+use lib.ListN.{getD, getElem?}
+use Rattle.sets.specs.Members.{members}
+use Rattle.roster.specs.Limits.{rowLimit}
+use Rattle.roster.specs.Meaning.{CrewList, Blocks, Absence, FirstBlocker}
+use Rattle.roster.specs.declared.Policy.{Policy}
+use Rattle.roster.specs.declared.Reply.{Reply}
+use Rattle.absences.specs.Tried.{skipping}
+use Rattle.absences.specs.Asked.{Admits, needPolicy, PolicyReply}
+use Rattle.book.specs.Layout.{Contents, Row, LayoutOf}
+use Rattle.book.specs.Promises.{tableFor}
+use Rattle.lines.specs.Text.{space, comma, decimal, joined}
+use Rattle.lines.specs.Lines.{verdictWord, setsText}
+use Rattle.lines.specs.Sheet.{allowance, staffOf, replyTo, sheetOf}
+use Rattle.printed.specs.Cut.{_␣_, HasLine}
+
+-- ---- a policy of a book
+
+-- the book is the layout of these values, and this is their policy with the index i
+pub record PolicyOf (book : List ℕ) (i : ℕ) (v : Contents) (p : Policy) : Type 0 where
+  pub layout : LayoutOf v book
+  pub policy : getElem? (v .policies) i ≡ some p
+
+-- the units that deciding it takes
+abbrev pub needOf : Contents → Policy → ℕ
+needOf v p = needPolicy skipping (tableFor v) (p .task) (p .away) (p .crews) (p .size)
+
+-- what may be replied to it
+abbrev pub ReplyTo : Contents → Policy → Reply → Type 0
+ReplyTo v p = PolicyReply skipping (tableFor v) (p .task) (p .away) (p .crews) (p .size) allowance
+
+-- "any s people away": so many of the book's rows, or fewer
+abbrev pub AwayOf : Contents → Policy → ℕ → Type 0
+AwayOf v p A = Absence (tableFor v) (p .away) A
+
+-- "still d separate crews of at most t, each holding every permission of the task", and nobody of A in them
+abbrev pub CrewsOf : Contents → Policy → ℕ → List ℕ → Type 0
+CrewsOf v p A crews = CrewList (tableFor v) (p .task) (p .crews) (p .size) A crews
+
+-- ---- names
+
+-- the rows with these numbers, one after the other
+unfoldable pub rowsAt : List Row → List ℕ → List Row
+rowsAt rows [] = []
+rowsAt rows (u ∷ l) = elim (getElem? rows u) [ none ↦ rowsAt rows l | some row ↦ row ∷ rowsAt rows l ]
+
+-- "Members are staff numbers in row order joined by `,`"; `-` where there is none
+abbrev pub namesOf : Contents → ℕ → List ℕ
+namesOf v A = joined comma (map (λ row. decimal (row .staff)) (rowsAt (v .rows) (members 0 rowLimit A)))
+
+-- n names that are pairwise different
+abbrev pub Different : ℕ → List ℕ → Type 0
+Different n staff = (u w : ℕ) → u < n → w < n → getD staff u 0 ≡ getD staff w 0 → u ≡ w
