@@ -1,3 +1,4 @@
-pub mod Cut
+pub mod Printed
 pub mod Words
+pub mod Cut
 pub mod Laws

@@ -1,21 +1,20 @@
 -- What stands on a sheet, in the words of the book that it is printed from. Nothing here is proved: these are definitions.
 use mathlib.Core.Path.{_≡_}
 use mathlib.Core.Option.{Option, some, none}
-use mathlib.Core.List.{List, [], _∷_, _++_, map}
+use mathlib.Core.List.{List, [], _∷_, map}
 use Prim.Native.Nat.{ℕ, _<_}
-use lib.ListN.{getD, getElem?}
+use lib.ListN.{getD, getElem?, take}
 use Rattle.sets.specs.Members.{members}
 use Rattle.roster.specs.Limits.{rowLimit}
-use Rattle.roster.specs.Meaning.{CrewList, Blocks, Absence, FirstBlocker}
 use Rattle.roster.specs.declared.Policy.{Policy}
 use Rattle.roster.specs.declared.Reply.{Reply}
+use Rattle.crews.specs.Named.{firstList}
 use Rattle.absences.specs.Tried.{skipping}
-use Rattle.absences.specs.Asked.{Admits, needPolicy, PolicyReply}
+use Rattle.absences.specs.Asked.{needPolicy, PolicyReply}
 use Rattle.book.specs.Layout.{Contents, Row, LayoutOf}
 use Rattle.book.specs.Promises.{tableFor}
-use Rattle.lines.specs.Text.{space, comma, decimal, joined}
-use Rattle.lines.specs.Lines.{verdictWord, setsText}
-use Rattle.lines.specs.Sheet.{allowance, staffOf, replyTo, sheetOf}
+use Rattle.lines.specs.Text.{comma, decimal, joined}
+use Rattle.lines.specs.Sheet.{allowance, sheetOf}
 use Rattle.printed.specs.Cut.{_␣_, HasLine}
 
 -- ---- a policy of a book
@@ -33,13 +32,13 @@ needOf v p = needPolicy skipping (tableFor v) (p .task) (p .away) (p .crews) (p 
 abbrev pub ReplyTo : Contents → Policy → Reply → Type 0
 ReplyTo v p = PolicyReply skipping (tableFor v) (p .task) (p .away) (p .crews) (p .size) allowance
 
--- "any s people away": so many of the book's rows, or fewer
-abbrev pub AwayOf : Contents → Policy → ℕ → Type 0
-AwayOf v p A = Absence (tableFor v) (p .away) A
+-- "the first list with nobody absent": the d crews that are printed with a yes
+abbrev pub firstCrews : Contents → Policy → List ℕ
+firstCrews v p = take (p .crews) (firstList (tableFor v) (p .task) (p .crews) (p .size) 0)
 
--- "still d separate crews of at most t, each holding every permission of the task", and nobody of A in them
-abbrev pub CrewsOf : Contents → Policy → ℕ → List ℕ → Type 0
-CrewsOf v p A crews = CrewList (tableFor v) (p .task) (p .crews) (p .size) A crews
+-- the sheet has a line `i WORD ..`
+abbrev pub Prints : List ℕ → ℕ → List ℕ → Type 0
+Prints book i word = (rest : List ℕ) × HasLine (sheetOf book) (decimal i ␣ word ␣ rest)
 
 -- ---- names
 

@@ -1,9 +1,11 @@
 -- What holds of every item of a list. Assumes nothing.
 use mathlib.Core.Path.{_≡_, refl, sym, subst, ap₂}
 use mathlib.Core.Logic.{⊎-elim}
+use mathlib.Core.Option.{some}
 use mathlib.Core.List.{List, [], _∷_, map, List·Memᴰ, List·Memᴰ·head, List·Memᴰ·tail, List·Memᴰ·cases-cons, List·Memᴰ·not-nil, head-eq-of-cons-eq, tail-eq-of-cons-eq}
-use Prim.Native.Nat.{ℕ}
+use Prim.Native.Nat.{ℕ, zero, suc, _<_}
 use native.Mathlib.Omega.{arith}
+use lib.ListN.{length, getD, getElem?}
 use Rattle.printed.specs.Cut.{Every}
 
 pub every-none : {A : Type 0} (P : A → Type 0) → Every P []
@@ -30,3 +32,18 @@ map-same f (x ∷ l) [] h e = let z : _≡_ {A = ℕ} 0 1 = cc in absurd (omega 
 map-same {A} f (x ∷ l) (y ∷ k) h e =
     ap₂ (λ (a : A) (s : List A). a ∷ s) (every-first (every-first h) (head-eq-of-cons-eq e))
     (map-same f l k (λ a m. every-rest (every-rest h a m)) (tail-eq-of-cons-eq e))
+
+-- what stands at a place is in the list
+pub nth-in : {A : Type 0} (l : List A) (i : ℕ) (x : A) → getElem? l i ≡ some x → List·Memᴰ x l
+nth-in [] i x e = let z : _≡_ {A = ℕ} 0 1 = cc in absurd (omega arith)
+nth-in (y ∷ l) zero x e = let same : x ≡ y = cc in List·Memᴰ·head same
+nth-in (y ∷ l) (suc i) x e = List·Memᴰ·tail (nth-in l i x e)
+
+-- by place
+pub every-at : (P : ℕ → Type 0) (l : List ℕ) → ((j : ℕ) → j < length l → P (getD l j 0)) → Every P l
+every-at P [] h = every-none P
+every-at P (x ∷ l) h = every-cons (h 0 (omega arith)) (every-at P l (λ j b. h (suc j) (omega arith)))
+
+pub map-ext : {A B : Type 0} (f g : A → B) (l : List A) → Every (λ x. f x ≡ g x) l → map f l ≡ map g l
+map-ext f g [] h = refl
+map-ext {A} {B} f g (x ∷ l) h = ap₂ (λ (y : B) (s : List B). y ∷ s) (every-first h) (map-ext f g l (every-rest h))

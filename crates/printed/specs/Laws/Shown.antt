@@ -94,7 +94,7 @@ module _ (table : Table) (P d t A : ℕ) (task : P ≢ 0) (crews : List ℕ) (li
       go (no n) = omega (arith, eight .past j (omega arith), pow-pos (table .rows))
 
   -- a crew covers the task, so somebody is in it
-  list-some : (j : ℕ) → j < d → getD crews j 0 ≢ 0
+  pub list-some : (j : ℕ) → j < d → getD crews j 0 ≢ 0
   list-some j l e =
       let p = some-member P task in
       let u = list .whole j l (p .0) (p .1) in
