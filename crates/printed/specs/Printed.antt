@@ -1,7 +1,7 @@
 -- What a printed sheet tells whoever holds it, and nothing else. A line begins with the index i of a policy, then comes a word. For any string of
 -- bytes that the program was given: if its sheet has such a line, the string is a roster book, it has a policy i, and this holds of it. What crews,
 -- absences and blockers are is said by the page roster/specs/Meaning.antt, what a book is by book/specs/Layout.antt. Assumes nothing.
-use mathlib.Core.Path.{_≡_, sym, ap, _∙_}
+use mathlib.Core.Path.{_≡_}
 use mathlib.Core.List.{List}
 use Prim.Native.Nat.{ℕ, _<_}
 use Rattle.roster.specs.Meaning.{CrewList, Blocks, Absence, FirstBlocker}

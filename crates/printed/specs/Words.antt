@@ -1,16 +1,17 @@
 -- What stands on a sheet, in the words of the book that it is printed from. Nothing here is proved: these are definitions.
 use mathlib.Core.Path.{_≡_}
-use mathlib.Core.Option.{Option, some, none}
+use mathlib.Core.Option.{some, none}
 use mathlib.Core.List.{List, [], _∷_, map}
-use Prim.Native.Nat.{ℕ, _<_}
+use Prim.Native.Nat.{ℕ, _^_, _≤_, _<_}
 use lib.ListN.{getD, getElem?, take}
 use Rattle.sets.specs.Members.{members}
 use Rattle.roster.specs.Limits.{rowLimit}
 use Rattle.roster.specs.declared.Policy.{Policy}
 use Rattle.roster.specs.declared.Reply.{Reply}
+use Rattle.roster.specs.declared.Table.{Table}
 use Rattle.crews.specs.Named.{firstList}
-use Rattle.absences.specs.Tried.{skipping}
-use Rattle.absences.specs.Asked.{needPolicy, PolicyReply}
+use Rattle.absences.specs.Tried.{Way, skipping}
+use Rattle.absences.specs.Asked.{Admits, needPolicy, PolicyReply}
 use Rattle.book.specs.Layout.{Contents, Row, LayoutOf}
 use Rattle.book.specs.Promises.{tableFor}
 use Rattle.lines.specs.Text.{comma, decimal, joined}
@@ -39,6 +40,20 @@ firstCrews v p = take (p .crews) (firstList (tableFor v) (p .task) (p .crews) (p
 -- the sheet has a line `i WORD ..`
 abbrev pub Prints : List ℕ → ℕ → List ℕ → Type 0
 Prints book i word = (rest : List ℕ) × HasLine (sheetOf book) (decimal i ␣ word ␣ rest)
+
+-- a reply that may be given to an admitted policy question, by either search and with any allowance, over a table of at most n rows
+pub record ReplyOver (n : ℕ) (r : Reply) : Type 0 where
+  pub way : Way
+  pub table : Table
+  pub task : ℕ
+  pub away : ℕ
+  pub crews : ℕ
+  pub size : ℕ
+  pub allowance : ℕ
+  pub few : table .rows ≤ n
+  pub wide : task < 2 ^ 32
+  pub admitted : Admits table task away crews size
+  pub allowed : PolicyReply way table task away crews size allowance r
 
 -- ---- names
 

@@ -1,30 +1,31 @@
 -- A policy of a good book is an admitted question, and what is printed of it is the reply that the search is allowed to give. Assumes nothing.
-use mathlib.Core.Path.{_≡_, refl, sym, ap, _∙_, subst}
+use mathlib.Core.Path.{_≡_, sym}
 use mathlib.Core.Option.{some}
-use mathlib.Core.List.{List, [], _∷_}
+use mathlib.Core.List.{List, [], _∷_, _++_}
 use Prim.Native.Nat.{ℕ, zero, suc, _^_, _≤_, _<_}
 use native.Mathlib.Nat.{lt-of-lt-of-le}
 use native.Mathlib.Omega.{arith}
 use lib.ListN.{length, getElem?}
-use lib.Dec.{ltb}
 use lib.Pow.{pow-mono}
 use borrow.Author.Tests.{le-ltb}
 use Rattle.roster.specs.Limits.{rowLimit}
-use Rattle.roster.specs.Refusals.{refusedIf, policyRuling}
+use Rattle.roster.specs.Refusals.{policyRuling}
 use Rattle.roster.specs.declared.Policy.{Policy}
-use Rattle.roster.specs.declared.Ruling.{Ruling}
+use Rattle.roster.specs.declared.Reply.{Reply}
 use Rattle.roster.specs.declared.Ruling.the-variants.{Admitted}
-use Rattle.roster.specs.declared.Table.{Table}
 use Rattle.absences.specs.Tried.{skipping}
-use Rattle.absences.specs.Asked.{Admits, PolicyReply}
-use Rattle.absences.specs.Replied.{policyReplyOf}
+use Rattle.absences.specs.Asked.{Admits}
 use Rattle.absences.specs.Laws.Demands.{Tells, policy-allowed, policy-exactly}
-use Rattle.book.specs.Layout.{Contents, Each, PolicyFits, LayoutOf}
-use Rattle.book.specs.Parts.{tableOf}
+use Rattle.book.specs.Layout.{Contents, Each, PolicyFits}
 use Rattle.book.specs.Promises.{tableFor}
 use Rattle.book.specs.Laws.Parts.{layout-parts}
-use Rattle.lines.specs.Sheet.{allowance, replyTo}
+use Rattle.lines.specs.Text.{newline}
+use Rattle.lines.specs.Lines.{lineOf}
+use Rattle.lines.specs.Sheet.{allowance, staffOf, replyTo, sheetOf}
+use Rattle.printed.specs.Cut.{linesOf}
 use Rattle.printed.specs.Words.{PolicyOf, ReplyTo}
+use Rattle.printed.specs.Laws.Lines.{line-text}
+use Rattle.printed.specs.Laws.Sheets.{lineAt, sheet-line}
 
 each-nth : {A : Type 0} (P : A → Type 0) (l : List A) (i : ℕ) (x : A) → Each P l → getElem? l i ≡ some x → P x
 unfolding Each
@@ -55,3 +56,23 @@ module _ (book : List ℕ) (i : ℕ) (v : Contents) (p : Policy) (o : PolicyOf b
 
   pub policy-tells : Tells skipping (tableFor v) (p .task) (p .away) (p .crews) (p .size) allowance (replyTo book p)
   policy-tells = policy-exactly skipping (tableFor v) (p .task) (p .away) (p .crews) (p .size) task-wide allowance (replyTo book p) policy-reply
+
+-- what line i of a sheet is
+pub record PolicyLine (book : List ℕ) (i : ℕ) (v : Contents) (p : Policy) : Type 0 where
+  pub reply : Reply
+  pub admitted : Admits (tableFor v) (p .task) (p .away) (p .crews) (p .size)
+  pub allowed : ReplyTo v p reply
+  pub text : List ℕ
+  pub line : getElem? (linesOf (sheetOf book)) i ≡ some text
+  pub written : text ++ (newline ∷ []) ≡ lineOf (staffOf book) i reply
+
+-- it is the line of a reply that may be given to policy i, whose question is admitted
+pub policy-line : (book : List ℕ) (i : ℕ) (v : Contents) (p : Policy) → PolicyOf book i v p → PolicyLine book i v p
+policy-line book i v p o = record {
+  reply = replyTo book p;
+  admitted = policy-admitted book i v p o;
+  allowed = policy-reply book i v p o;
+  text = lineAt book i p;
+  line = sheet-line book i v p o;
+  written = sym (line-text (staffOf book) i (replyTo book p));
+}

@@ -11,11 +11,14 @@ use Rattle.roster.specs.declared.Verdict.{Verdict}
 use Rattle.roster.specs.declared.Verdict.the-variants.{Yes, No, Undecided, Crews, None, Refused}
 use Rattle.roster.specs.declared.Reply.{Reply}
 use Rattle.lines.specs.Text.{space, newline, comma, slash, dash, decimal, marked, joined}
-use Rattle.lines.specs.Lines.{bad, verdictWord, names, setText, filled, crewsText, setsText, lineOf, badLine}
-use Rattle.printed.specs.Cut.{_␣_, Every, Lacks}
+use Rattle.lines.specs.Lines.{bad, verdictWord, names, setText, filled, setsText, lineOf, badLine}
+use Rattle.printed.specs.Cut.{_␣_, Lacks}
 use Rattle.printed.specs.Laws.Every.{every-map}
 use Rattle.printed.specs.Laws.Marks.{parted, lacks-word, over, lacks-over, joined-lacks}
 use Rattle.printed.specs.Laws.Numbers.{NoDigit, decimal-lacks, decimal-same}
+
+pub never : {A : Type 0} → _≡_ {A = ℕ} 0 1 → A
+never e = absurd (omega arith)
 
 -- a line without its newline
 abbrev pub lineText : List ℕ → ℕ → Reply → List ℕ
@@ -109,6 +112,13 @@ pub number-parted : (m n : ℕ) (x y : List ℕ) → decimal m ␣ x ≡ decimal
 number-parted m n x y e =
     let h = parted space (decimal m) (decimal n) x y (number-blank space (omega arith) m) (number-blank space (omega arith) n) e in
     (decimal-same m n (h .0), h .1)
+
+-- the line of a refused book tells number and place
+pub bad-parted : (m n at to : ℕ) → badText m at ≡ badText n to → (m ≡ n) × (at ≡ to)
+bad-parted m n at to e =
+    let blank = bad-blank space (omega arith) in
+    let h = number-parted m n (decimal at) (decimal to) (parted space bad bad _ _ blank blank e .1) in
+    (h .0, decimal-same at to (h .1))
 
 -- the three verdicts that a policy's line can have
 pub data Worded : Verdict → Type 0 where

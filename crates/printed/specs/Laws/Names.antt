@@ -1,8 +1,8 @@
 -- The names on a sheet are the staff numbers of the book's rows, and no two rows have one name. Assumes nothing.
-use mathlib.Core.Path.{_≡_, refl, ap, ap₂, _∙_}
-use mathlib.Core.Option.{Option, some, none}
+use mathlib.Core.Path.{_≡_, refl, sym, ap, ap₂, _∙_}
+use mathlib.Core.Option.{Option, some}
 use mathlib.Core.List.{List, [], _∷_, map}
-use Prim.Native.Nat.{ℕ, zero, suc, _^_, _≤_, _<_}
+use Prim.Native.Nat.{ℕ, zero, suc, _^_, _<_}
 use native.Mathlib.Decide.{decLt}
 use native.Mathlib.Omega.{arith}
 use lib.ListN.{length, getD, getElem?}
@@ -34,6 +34,28 @@ within [] i x e = let z : _≡_ {A = ℕ} 0 1 = cc in absurd (omega arith)
 within (y ∷ l) zero x e = omega arith
 within (y ∷ l) (suc i) x e = omega (arith, within l i x e)
 
+-- ---- a set names rows that are there
+
+members-there : (n A : ℕ) → A < 2 ^ n → Every (λ u. u < n) (members 0 rowLimit A)
+members-there n A h u m = bit-below A n u h (has-of-mem rowLimit A u m .1)
+
+row-there : (rows : List Row) (u : ℕ) (us : List ℕ) (row : Row) → getElem? rows u ≡ some row → rowsAt rows (u ∷ us) ≡ row ∷ rowsAt rows us
+unfolding rowsAt
+row-there rows u us row e = rw (e, rowsAt)
+
+rows-there : (rows : List Row) (us : List ℕ) → Every (λ u. u < length rows) us → map some (rowsAt rows us) ≡ map (getElem? rows) us
+unfolding rowsAt
+rows-there rows [] h = refl
+rows-there rows (u ∷ us) h =
+    let here = there rows u (every-first h) in
+    ap (map some) (row-there rows u us (here .0) (here .1))
+    ∙ ap₂ (λ (x : Option Row) (xs : List (Option Row)). x ∷ xs) (sym (here .1)) (rows-there rows us (every-rest h))
+
+-- the rows that are named are, one by one and in row order, those of the set: each is there, and none is left out
+pub set-rows : (rows : List Row) (A : ℕ) → A < 2 ^ length rows
+    → map some (rowsAt rows (members 0 rowLimit A)) ≡ map (getElem? rows) (members 0 rowLimit A)
+set-rows rows A h = rows-there rows (members 0 rowLimit A) (members-there (length rows) A h)
+
 -- ---- a row's name is its staff number
 
 module _ (v : Contents) (book : List ℕ) (l : LayoutOf v book) where
@@ -49,16 +71,13 @@ module _ (v : Contents) (book : List ℕ) (l : LayoutOf v book) where
   rows-named [] h = refl
   rows-named (u ∷ us) h =
       let here = there (v .rows) u (every-first h) in
-      let row = here .0 in
-      let name = staff-of-row u row (here .1) in
-      rw (here .1, rowsAt) (ap₂ (λ (x : List ℕ) (xs : List (List ℕ)). x ∷ xs) (ap decimal name) (rows-named us (every-rest h)))
+      ap₂ (λ (x : List ℕ) (xs : List (List ℕ)). x ∷ xs) (ap decimal (staff-of-row u (here .0) (here .1))) (rows-named us (every-rest h))
+      ∙ sym (ap (map (λ row. decimal (row .staff))) (row-there (v .rows) u us (here .0) (here .1)))
 
-  -- the names of a set of rows are those of the rows, in row order
+  -- the names of a set are those of its rows, in row order
   pub set-names : (A : ℕ) → A < 2 ^ length (v .rows) → setText (staffOf book) A ≡ namesOf v A
   unfolding names
-  set-names A h =
-      ap (joined comma)
-      (rows-named (members 0 rowLimit A) (λ u m. bit-below A (length (v .rows)) u h (has-of-mem rowLimit A u m .1)))
+  set-names A h = ap (joined comma) (rows-named (members 0 rowLimit A) (members-there (length (v .rows)) A h))
 
 -- ---- no two rows have one name
 

@@ -1,45 +1,36 @@
 -- What a line of the sheet says of its policy: from the text to the reply, and from the reply to the meaning. Assumes nothing.
-use mathlib.Core.Path.{_≡_, refl, sym, ap, ap₂, _∙_, subst}
-use mathlib.Core.Option.{some, none}
-use mathlib.Core.Logic.{_⊎_, inl, inr, ⊎-elim, _≢_, _↔_}
-use mathlib.Core.Bool.{false}
-use mathlib.Core.List.{List, [], _∷_, _++_, map, List·Memᴰ, List·Memᴰ·head, List·Memᴰ·tail, List·Memᴰ·cases-cons, List·Memᴰ·not-nil, List·Memᴰ·eq-of-singleton}
-use Prim.Native.Nat.{ℕ, zero, suc, _+_, _^_, _≤_, _<_}
-use native.Mathlib.Nat.{lt-of-lt-of-le}
+use mathlib.Core.Path.{_≡_, sym, ap, ap₂, _∙_, subst}
+use mathlib.Core.Option.{some}
+use mathlib.Core.Logic.{_⊎_, inl, inr, _↔_}
+use mathlib.Core.List.{List, [], _∷_, map, List·Memᴰ, List·Memᴰ·head, List·Memᴰ·eq-of-singleton}
+use Prim.Native.Nat.{ℕ, _≤_, _<_}
 use native.Mathlib.Omega.{arith}
 use lib.ListN.{length, getD, getElem?, take}
-use lib.Pow.{pow-mono}
-use borrow.Author.Tests.{le-ltb}
-use Rattle.roster.specs.Limits.{rowLimit, crewLimit}
-use Rattle.roster.specs.Refusals.{refusedIf, policyRuling}
-use Rattle.roster.specs.Meaning.{CrewList, Blocks, Absence, Holds, FirstBlocker}
+use Rattle.roster.specs.Meaning.{CrewList, Blocks, Absence, FirstBlocker}
 use Rattle.roster.specs.declared.Policy.{Policy}
-use Rattle.roster.specs.declared.Ruling.{Ruling}
 use Rattle.roster.specs.declared.Reply.{Reply}
 use Rattle.roster.specs.declared.Table.{Table}
 use Rattle.roster.specs.declared.Verdict.{Verdict}
 use Rattle.roster.specs.declared.Verdict.the-variants.{Yes, No, Undecided}
-use Rattle.crews.specs.Named.{firstList}
-use Rattle.crews.specs.Laws.Exact.{Fair, holds-all, decide}
+use Rattle.crews.specs.Laws.Exact.{Fair, holds-all}
 use Rattle.absences.specs.Tried.{skipping}
-use Rattle.absences.specs.Asked.{Admits, needPolicy, PolicyReply}
-use Rattle.absences.specs.Replied.{policyReplyOf}
+use Rattle.absences.specs.Asked.{Admits}
 use Rattle.absences.specs.Laws.Decided.{admitted-fair}
-use Rattle.absences.specs.Laws.Demands.{Tells, policy-allowed, policy-exactly}
-use Rattle.book.specs.Layout.{Contents, Each, PolicyFits, LayoutOf}
+use Rattle.absences.specs.Laws.Demands.{Tells}
+use Rattle.book.specs.Layout.{Contents}
 use Rattle.book.specs.Faults.{faultNumber}
 use Rattle.book.specs.Reading.{startsOf}
-use Rattle.book.specs.Parts.{contentsOf, tableOf}
-use Rattle.book.specs.Promises.{Bytes, tableFor}
+use Rattle.book.specs.Parts.{contentsOf}
+use Rattle.book.specs.Promises.{Bytes, FirstFault, tableFor}
 use Rattle.book.specs.Laws.Books.{Good, Refused, reply, good-layout}
-use Rattle.book.specs.Laws.Parts.{layout-parts}
+use Rattle.book.specs.declared.Fault.{Fault}
 use Rattle.lines.specs.Text.{dash, slash, decimal, joined}
-use Rattle.lines.specs.Lines.{yes, no, undecided, verdictWord, setText, filled, crewsText, setsText}
+use Rattle.lines.specs.Lines.{bad, yes, no, undecided, verdictWord, setText, filled, setsText}
 use Rattle.lines.specs.Sheet.{allowance, staffOf, replyTo, sheetOf}
 use Rattle.printed.specs.Cut.{_␣_, linesOf, HasLine}
 use Rattle.printed.specs.Words.{PolicyOf, needOf, firstCrews, Prints, namesOf}
 use Rattle.printed.specs.Laws.Every.{nth-in, every-at, map-ext}
-use Rattle.printed.specs.Laws.Lines.{lineText, badText, not-bad, number-parted, Worded, says-yes, says-no, says-undecided, word-parted}
+use Rattle.printed.specs.Laws.Lines.{never, badText, not-bad, bad-parted, number-parted, Worded, says-yes, says-no, says-undecided, word-parted}
 use Rattle.printed.specs.Laws.Asked.{task-wide, policy-admitted, policy-reply, policy-tells}
 use Rattle.printed.specs.Laws.Names.{set-names}
 use Rattle.printed.specs.Laws.Shown.{Shown, allowed-shown, list-some}
@@ -67,8 +58,23 @@ line-policy book bytes i rest m = go (reply book)
     go (inr r) = absurd (not-bad i rest (decimal (faultNumber (r .fault)) ␣ decimal (r .place))
         (List·Memᴰ·eq-of-singleton (subst (List·Memᴰ (decimal i ␣ rest)) (refused-lines book (r .fault) (r .place) (r .first)) m)))
 
-never : {A : Type 0} → _≡_ {A = ℕ} 0 1 → A
-never e = absurd (omega arith)
+-- `bad n at` is printed exactly if the book's first fault has the number n, and this place
+pub bad-printed : (book : List ℕ) → Bytes book → (number place : ℕ)
+    → HasLine (sheetOf book) (bad ␣ decimal number ␣ decimal place) ↔ ((f : Fault) × (faultNumber f ≡ number) × FirstFault book f place)
+bad-printed book bytes number place = (λ m. go m (reply book), back)
+  where
+    go : HasLine (sheetOf book) (badText number place) → Good book ⊎ Refused book → (f : Fault) × (faultNumber f ≡ number) × FirstFault book f place
+    go m (inl g) =
+        let r = sheet-found (contentsOf book) book (badText number place) (good-layout book (startsOf book) bytes (g .reply)) m in
+        absurd (not-bad (r .0) (behindIndex book (r .1)) (decimal number ␣ decimal place) (sym (r .3)))
+    go m (inr r) =
+        let same = List·Memᴰ·eq-of-singleton (subst (List·Memᴰ (badText number place)) (refused-lines book (r .fault) (r .place) (r .first)) m) in
+        let h = bad-parted number (faultNumber (r .fault)) place (r .place) same in
+        (r .fault, sym (h .0), subst (FirstFault book (r .fault)) (sym (h .1)) (r .first))
+
+    back : (f : Fault) × (faultNumber f ≡ number) × FirstFault book f place → HasLine (sheetOf book) (badText number place)
+    back (f, e, h) =
+        subst (List·Memᴰ (badText number place)) (sym (refused-lines book f place h)) (List·Memᴰ·head (ap (λ (n : ℕ). badText n place) (sym e)))
 
 module _ (book : List ℕ) (i : ℕ) (v : Contents) (p : Policy) (o : PolicyOf book i v p) where
   abbrev given : Reply

@@ -8,7 +8,7 @@ use native.Mathlib.Omega.{arith}
 use lib.ListN.{length, getD, take}
 use lib.Pow.{pow-mono, pow-pos}
 use lib.Seq.{ext-getD}
-use Rattle.sets.specs.Sets.{bit, Has, bit-below, ext-all, sub-of-has}
+use Rattle.sets.specs.Sets.{bit-below, ext-all, sub-of-has}
 use Rattle.sets.specs.Members.{members}
 use Rattle.sets.specs.Laws.Members.{has-of-mem, mem-of-has, members-empty}
 use Rattle.roster.specs.Limits.{rowLimit}

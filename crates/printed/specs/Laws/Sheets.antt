@@ -9,18 +9,15 @@ use lib.ListN.{length, getElem?}
 use Rattle.roster.specs.declared.Policy.{Policy}
 use Rattle.book.specs.Layout.{Contents, LayoutOf}
 use Rattle.book.specs.Faults.{faultNumber}
-use Rattle.book.specs.Reading.{readOf}
-use Rattle.book.specs.Parts.{policyCount, policyAt}
-use Rattle.book.specs.Promises.{FirstFault, startsFor, policyBy}
-use Rattle.book.specs.Laws.Books.{layout-good, first-fault-refused}
+use Rattle.book.specs.Reading.{startsOf}
+use Rattle.book.specs.Parts.{contentsOf, policyAt}
+use Rattle.book.specs.Promises.{Bytes, FirstFault, policyBy}
+use Rattle.book.specs.Laws.Books.{layout-good, first-fault-refused, Good, Refused, reply, good-layout}
 use Rattle.book.specs.Laws.Parts.{layout-parts}
 use Rattle.book.specs.declared.Fault.{Fault}
-use Rattle.book.specs.declared.Listed.{Listed}
 use Rattle.book.specs.declared.Listed.the-variants as listed
-use Rattle.book.specs.declared.Reading.{Reading}
 use Rattle.book.specs.declared.Reading.the-variants as read
 use Rattle.lines.specs.Text.{newline}
-use Rattle.lines.specs.Lines.{lineOf, badLine}
 use Rattle.lines.specs.Sheet.{staffOf, replyTo, lineBy, linesFrom, sheetBy, sheetOf}
 use Rattle.printed.specs.Cut.{Every, Lacks, linesOf, ended, HasLine}
 use Rattle.printed.specs.Words.{PolicyOf}
@@ -108,11 +105,26 @@ sheet-found v book line l m =
 -- ---- a refused book
 
 -- "A refused book prints only one such line of `bad`, the number and the place": of its first fault
-pub sheet-refused : (book : List ℕ) (f : Fault) (at : ℕ) → FirstFault book f at → sheetOf book ≡ ended (badText (faultNumber f) at ∷ [])
+refused-whole : (book : List ℕ) (f : Fault) (at : ℕ) → FirstFault book f at → sheetOf book ≡ ended (badText (faultNumber f) at ∷ [])
 unfolding sheetOf sheetBy ended
-sheet-refused book f at h = ap (sheetBy book) (first-fault-refused book f at h) ∙ bad-text (faultNumber f) at
+refused-whole book f at h = ap (sheetBy book) (first-fault-refused book f at h) ∙ bad-text (faultNumber f) at
 
 pub refused-lines : (book : List ℕ) (f : Fault) (at : ℕ) → FirstFault book f at → linesOf (sheetOf book) ≡ badText (faultNumber f) at ∷ []
 refused-lines book f at h =
-    ap linesOf (sheet-refused book f at h)
+    ap linesOf (refused-whole book f at h)
     ∙ lines-ended (badText (faultNumber f) at ∷ []) (every-cons (bad-one (faultNumber f) at) (every-none (Lacks newline)))
+
+-- ---- every sheet
+
+-- the lines of a sheet, each ended by its newline, are the sheet
+pub sheet-ended : (book : List ℕ) → Bytes book → sheetOf book ≡ ended (linesOf (sheetOf book))
+sheet-ended book bytes = ⊎-elim good refused (reply book)
+  where
+    good : Good book → sheetOf book ≡ ended (linesOf (sheetOf book))
+    good g =
+        let v = contentsOf book in
+        let l = good-layout book (startsOf book) bytes (g .reply) in
+        sheet-whole v book l ∙ ap ended (sym (sheet-lines v book l))
+
+    refused : Refused book → sheetOf book ≡ ended (linesOf (sheetOf book))
+    refused r = refused-whole book (r .fault) (r .place) (r .first) ∙ ap ended (sym (refused-lines book (r .fault) (r .place) (r .first)))

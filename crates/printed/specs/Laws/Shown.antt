@@ -1,7 +1,7 @@
--- What a reply to an admitted policy question is, as far as its line shows it; and so that a line can be read back. Assumes nothing.
+-- What a reply to an admitted policy question is, as far as its line shows it. Assumes nothing.
 use mathlib.Core.Path.{_≡_, refl, sym, ap, _∙_, subst}
 use mathlib.Core.Logic.{_≢_}
-use mathlib.Core.List.{List, [], _∷_, _++_, append-cancel-right}
+use mathlib.Core.List.{List}
 use Prim.Native.Nat.{ℕ, _^_, _≤_, _<_}
 use native.Mathlib.Decide.{decLt}
 use native.Mathlib.Nat.{lt-of-lt-of-le}
@@ -10,7 +10,7 @@ use lib.ListN.{length, getD, take}
 use lib.Pow.{pow-mono, pow-pos}
 use lib.Seq.{getD-take}
 use Rattle.sets.specs.Sets.{bit, bit-none, some-member}
-use Rattle.roster.specs.Limits.{rowLimit, crewLimit}
+use Rattle.roster.specs.Limits.{crewLimit}
 use Rattle.roster.specs.Replies.{noCrews}
 use Rattle.roster.specs.Meaning.{CrewList}
 use Rattle.roster.specs.declared.Table.{Table}
@@ -22,12 +22,8 @@ use Rattle.absences.specs.Tried.{Way}
 use Rattle.absences.specs.Asked.{Admits, PolicyReply}
 use Rattle.absences.specs.Laws.Decided.{Case, is-refused, is-undecided, is-yes, is-no, admitted-fair, policy-case}
 use Rattle.absences.specs.Laws.Demands.{Tells, policy-exactly}
-use Rattle.lines.specs.Text.{newline}
-use Rattle.lines.specs.Lines.{verdictWord, setsText, lineOf}
-use Rattle.printed.specs.Cut.{_␣_}
-use Rattle.printed.specs.Words.{Different}
-use Rattle.printed.specs.Laws.Lines.{lineText, line-text, Worded, says-yes, says-no, says-undecided, number-parted, word-parted}
-use Rattle.printed.specs.Laws.Sets.{set-same, crews-same, NoneBehind, filled-same}
+use Rattle.printed.specs.Laws.Lines.{never, Worded, says-yes, says-no, says-undecided}
+use Rattle.printed.specs.Laws.Sets.{NoneBehind}
 
 -- a reply that is printed: a verdict that has a word, sets of n rows, no crew behind an empty one, and no set but those that are written
 pub record Shown (n : ℕ) (r : Reply) : Type 0 where
@@ -38,46 +34,6 @@ pub record Shown (n : ℕ) (r : Reply) : Type 0 where
   pub blocker : r .blocker < 2 ^ n
   pub no-crews : r .verdict ≢ Yes → r .crews ≡ noCrews
   pub no-blocker : r .verdict ≢ No → r .blocker ≡ 0
-
-never : {A : Type 0} → _≡_ {A = ℕ} 0 1 → A
-never e = absurd (omega arith)
-
--- ---- a line can be read back
-
-module _ (n : ℕ) (few : n ≤ rowLimit) (staff : List ℕ) (different : Different n staff) (r q : Reply) (a : Shown n r) (b : Shown n q) where
-  -- what is not written is the same in both
-  crewless : r .verdict ≢ Yes → q .verdict ≢ Yes → r .crews ≡ q .crews
-  crewless e f = a .no-crews e ∙ sym (b .no-crews f)
-
-  unblocked : r .verdict ≢ No → q .verdict ≢ No → r .blocker ≡ q .blocker
-  unblocked e f = a .no-blocker e ∙ sym (b .no-blocker f)
-
-  -- the sets that go with a word tell the crews and the blocker
-  sets-same : (v : Verdict) → Worded v → r .verdict ≡ v → q .verdict ≡ v → setsText staff r v ≡ setsText staff q v
-      → (r .crews ≡ q .crews) × (r .blocker ≡ q .blocker)
-  unfolding setsText
-  sets-same Yes says-yes e f s = (
-    filled-same (r .crews) (q .crews) (a .eight ∙ sym (b .eight)) (a .behind) (b .behind)
-        (crews-same n few staff different (r .crews) (q .crews) (a .crews) (b .crews) s),
-    unblocked (λ c. never (cc)) (λ c. never (cc)),
-  )
-  sets-same No says-no e f s = (
-    crewless (λ c. never (cc)) (λ c. never (cc)),
-    set-same n few staff different (r .blocker) (q .blocker) (a .blocker) (b .blocker) s,
-  )
-  sets-same Undecided says-undecided e f s =
-      (crewless (λ c. never (cc)) (λ c. never (cc)), unblocked (λ c. never (cc)) (λ c. never (cc)))
-
-  -- replies with the same line over the same names are the same reply, and have the same index
-  pub shown-same : (i j : ℕ) → lineOf staff i r ≡ lineOf staff j q → (i ≡ j) × (r ≡ q)
-  shown-same i j e =
-      let text : lineText staff i r ≡ lineText staff j q =
-      append-cancel-right (lineText staff i r) (lineText staff j q) (newline ∷ []) (sym (line-text staff i r) ∙ e ∙ line-text staff j q) in
-      let index = number-parted i j _ _ text in
-      let word = word-parted (r .verdict) (q .verdict) _ _ (a .word) (b .word) (index .1) in
-      let units = number-parted (r .units) (q .units) _ _ (word .1) in
-      let sets = sets-same (q .verdict) (b .word) (word .0) refl (ap (setsText staff r) (sym (word .0)) ∙ units .1) in
-      (index .0, λ k. record { verdict = word .0 k; crews = sets .0 k; blocker = sets .1 k; units = units .0 k })
 
 -- ---- what an allowed reply shows
 
