@@ -2,7 +2,7 @@
 use mathlib.Core.Path.{_≡_, refl, sym, ap, _∙_}
 use mathlib.Core.Logic.{_≢_}
 use mathlib.Core.List.{List, [], _∷_, append-cancel-right}
-use Prim.Native.Nat.{ℕ, _≤_}
+use Prim.Native.Nat.{ℕ, _^_, _≤_, _<_}
 use lib.ListN.{length}
 use Rattle.roster.specs.Limits.{rowLimit}
 use Rattle.roster.specs.declared.Verdict.{Verdict}
@@ -12,9 +12,9 @@ use Rattle.book.specs.Layout.{Contents, LayoutOf}
 use Rattle.lines.specs.Text.{newline}
 use Rattle.lines.specs.Lines.{setsText, lineOf}
 use Rattle.lines.specs.Sheet.{staffOf}
-use Rattle.printed.specs.Words.{Different, ReplyOver}
+use Rattle.printed.specs.Words.{ReplyOver, namesOf, Different}
 use Rattle.printed.specs.Laws.Lines.{never, lineText, line-text, Worded, says-yes, says-no, says-undecided, number-parted, word-parted}
-use Rattle.printed.specs.Laws.Names.{staff-different}
+use Rattle.printed.specs.Laws.Names.{set-names, staff-different}
 use Rattle.printed.specs.Laws.Sets.{set-same, crews-same, filled-same}
 use Rattle.printed.specs.Laws.Shown.{Shown, allowed-shown}
 
@@ -66,3 +66,10 @@ line-read-back n few staff different i j r q a b = shown-same n few staff differ
 pub sheet-read-back : (v : Contents) (book : List ℕ) → LayoutOf v book → (i j : ℕ) (r q : Reply)
     → ReplyOver (length (v .rows)) r → ReplyOver (length (v .rows)) q → lineOf (staffOf book) i r ≡ lineOf (staffOf book) j q → (i ≡ j) × (r ≡ q)
 sheet-read-back v book l = line-read-back (length (v .rows)) (l .admitted .rows) (staffOf book) (staff-different v book l)
+
+-- and names tell who is meant: no two sets of a book's rows have the same
+pub names-tell : (v : Contents) (book : List ℕ) → LayoutOf v book → (A B : ℕ) → A < 2 ^ length (v .rows) → B < 2 ^ length (v .rows)
+    → namesOf v A ≡ namesOf v B → A ≡ B
+names-tell v book l A B a b e =
+    set-same (length (v .rows)) (l .admitted .rows) (staffOf book) (staff-different v book l) A B a b
+    (set-names v book l A a ∙ e ∙ sym (set-names v book l B b))

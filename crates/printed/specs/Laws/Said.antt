@@ -9,7 +9,6 @@ use lib.ListN.{length, getD, getElem?, take}
 use Rattle.roster.specs.Meaning.{CrewList, Blocks, Absence, FirstBlocker}
 use Rattle.roster.specs.declared.Policy.{Policy}
 use Rattle.roster.specs.declared.Reply.{Reply}
-use Rattle.roster.specs.declared.Table.{Table}
 use Rattle.roster.specs.declared.Verdict.{Verdict}
 use Rattle.roster.specs.declared.Verdict.the-variants.{Yes, No, Undecided}
 use Rattle.crews.specs.Laws.Exact.{Fair, holds-all}
@@ -79,9 +78,6 @@ bad-printed book bytes number place = (λ m. go m (reply book), back)
 module _ (book : List ℕ) (i : ℕ) (v : Contents) (p : Policy) (o : PolicyOf book i v p) where
   abbrev given : Reply
   given = replyTo book p
-
-  abbrev table : Table
-  table = tableFor v
 
   abbrev admits : Admits (tableFor v) (p .task) (p .away) (p .crews) (p .size)
   admits = policy-admitted book i v p o
