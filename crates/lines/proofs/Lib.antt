@@ -1,4 +1,3 @@
 -- What the proofs of the functions share.
-pub mod Appends
 pub mod Walk
 pub mod Verdicts

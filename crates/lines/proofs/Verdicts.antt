@@ -1,4 +1,4 @@
--- What a match on a verdict leaves where it is neither yes nor no. Assumes nothing.
+-- What a match on a verdict leaves for its last arm. Assumes nothing.
 use mathlib.Core.Path.{_≡_, refl}
 use mathlib.Core.List.{List, [], _∷_}
 use Prim.Native.Nat.{ℕ}
@@ -8,30 +8,30 @@ use Rattle.roster.proofs.Verdict.{the-type}
 use Rattle.roster.specs.declared.Verdict.{Verdict}
 use Rattle.roster.specs.declared.Verdict.the-variants.{Yes, No, Undecided, Crews, None, Refused}
 use Rattle.roster.specs.declared.Reply.{Reply}
-use Rattle.lines.specs.Text.{dash}
-use Rattle.lines.specs.Lines.{undecided, verdictWord, setsText}
+use Rattle.text.specs.Text.{dash}
+use Rattle.lines.specs.Lines.{verdictWord, setsText}
 
--- the variants after `Yes` and `No`, by their places
-abbrev others : List ℕ
-others = 2 ∷ 3 ∷ 4 ∷ 5 ∷ []
+-- the variants after `Yes` and `No`, by their places, and those after `Undecided`
+abbrev without-a-set : List ℕ
+without-a-set = 2 ∷ 3 ∷ 4 ∷ 5 ∷ []
 
-abbrev pub Open : Verdict → Type 0
-Open v = OneOf others (tagOf the-type v)
+abbrev without-a-word : List ℕ
+without-a-word = 3 ∷ 4 ∷ 5 ∷ []
 
-pub open-word : (v : Verdict) → Open v → verdictWord v ≡ undecided
+pub no-word : (v : Verdict) → OneOf without-a-word (tagOf the-type v) → verdictWord v ≡ []
 unfolding verdictWord
-open-word Yes k = absurd (miss others 0 tt k)
-open-word No k = absurd (miss others 1 tt k)
-open-word Undecided k = refl
-open-word Crews k = refl
-open-word None k = refl
-open-word (Refused refusal) k = refl
+no-word Yes k = absurd (miss without-a-word 0 tt k)
+no-word No k = absurd (miss without-a-word 1 tt k)
+no-word Undecided k = absurd (miss without-a-word 2 tt k)
+no-word Crews k = refl
+no-word None k = refl
+no-word (Refused refusal) k = refl
 
-pub open-sets : (staff : List ℕ) (reply : Reply) (v : Verdict) → Open v → setsText staff reply v ≡ dash ∷ []
+pub no-sets : (staff : List ℕ) (reply : Reply) (v : Verdict) → OneOf without-a-set (tagOf the-type v) → setsText staff reply v ≡ dash ∷ []
 unfolding setsText
-open-sets staff reply Yes k = absurd (miss others 0 tt k)
-open-sets staff reply No k = absurd (miss others 1 tt k)
-open-sets staff reply Undecided k = refl
-open-sets staff reply Crews k = refl
-open-sets staff reply None k = refl
-open-sets staff reply (Refused refusal) k = refl
+no-sets staff reply Yes k = absurd (miss without-a-set 0 tt k)
+no-sets staff reply No k = absurd (miss without-a-set 1 tt k)
+no-sets staff reply Undecided k = refl
+no-sets staff reply Crews k = refl
+no-sets staff reply None k = refl
+no-sets staff reply (Refused refusal) k = refl

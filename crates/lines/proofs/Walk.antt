@@ -9,8 +9,8 @@ use lib.Count.{trailingZeros}
 use lib.ListN.{length, getD, drop, drop-of-length-le}
 use lib.Seq.{drop-cons}
 use Rattle.sets.specs.Laws.Members.{members-empty, members-least}
-use Rattle.lines.specs.Text.{comma, slash, decimal, marked, joined}
-use Rattle.lines.specs.Lines.{names, setText, filled}
+use Rattle.text.specs.Text.{decimal, marked, joined}
+use Rattle.lines.specs.Lines.{names, betweenMembers, setText, filled, betweenCrews}
 
 -- ---- members
 
@@ -25,15 +25,15 @@ names-next staff set h n = ap (map (λ row. decimal (getD staff row 0))) (member
 
 -- the least member after its mark, then the others
 pub member-next : (staff : List ℕ) (mark set row : ℕ) → set < 2 ^ 64 → set ≢ 0 → row ≡ trailingZeros 64 set
-    → marked mark comma (names staff set) ≡ (mark ∷ decimal (getD staff row 0)) ++ marked comma comma (names staff (bitXor set (2 ^ row)))
+    → marked mark betweenMembers (names staff set) ≡ (mark ∷ decimal (getD staff row 0)) ++ marked betweenMembers betweenMembers (names staff (bitXor set (2 ^ row)))
 unfolding marked
 member-next staff mark set row h n e =
-    ap (marked mark comma) (names-next staff set h n)
-    ∙ ap (λ (u : ℕ). (mark ∷ decimal (getD staff u 0)) ++ marked comma comma (names staff (bitXor set (2 ^ u)))) (sym e)
+    ap (marked mark betweenMembers) (names-next staff set h n)
+    ∙ ap (λ (u : ℕ). (mark ∷ decimal (getD staff u 0)) ++ marked betweenMembers betweenMembers (names staff (bitXor set (2 ^ u)))) (sym e)
 
-pub member-last : (staff : List ℕ) (mark : ℕ) → marked mark comma (names staff 0) ≡ []
+pub member-last : (staff : List ℕ) (mark : ℕ) → marked mark betweenMembers (names staff 0) ≡ []
 unfolding marked
-member-last staff mark = ap (marked mark comma) (names-none staff)
+member-last staff mark = ap (marked mark betweenMembers) (names-none staff)
 
 -- ---- a mark and then the joined list is the list that begins with the mark
 
@@ -49,7 +49,7 @@ some-names staff set h n z = let e = ap length (names-next staff set h n) in ome
 
 -- what is to be written of the crews from j on
 abbrev pub crewsFrom : List ℕ → List ℕ → ℕ → ℕ → List ℕ
-crewsFrom staff crews mark j = marked mark slash (map (setText staff) (filled (drop j crews)))
+crewsFrom staff crews mark j = marked mark betweenCrews (map (setText staff) (filled (drop j crews)))
 
 filled-next : (crew : ℕ) (l : List ℕ) → crew ≢ 0 → filled (crew ∷ l) ≡ crew ∷ filled l
 unfolding filled
@@ -62,20 +62,20 @@ filled-stop crew l e = ap (λ (x : ℕ). filled (x ∷ l)) e
 
 -- a crew after its mark, then the others
 pub crew-next : (staff crews : List ℕ) (mark j : ℕ) → j < length crews → getD crews j 0 < 2 ^ 64 → getD crews j 0 ≢ 0
-    → crewsFrom staff crews mark j ≡ marked mark comma (names staff (getD crews j 0)) ++ crewsFrom staff crews slash (suc j)
+    → crewsFrom staff crews mark j ≡ marked mark betweenMembers (names staff (getD crews j 0)) ++ crewsFrom staff crews betweenCrews (suc j)
 unfolding marked
 crew-next staff crews mark j l h n =
-    ap (λ (s : List ℕ). marked mark slash (map (setText staff) s)) (ap filled (drop-cons crews j 0 l) ∙ filled-next (getD crews j 0) (drop (suc j) crews) n)
-    ∙ ap (λ (s : List ℕ). s ++ crewsFrom staff crews slash (suc j))
-    (mark-joined mark comma (names staff (getD crews j 0)) (some-names staff (getD crews j 0) h n))
+    ap (λ (s : List ℕ). marked mark betweenCrews (map (setText staff) s)) (ap filled (drop-cons crews j 0 l) ∙ filled-next (getD crews j 0) (drop (suc j) crews) n)
+    ∙ ap (λ (s : List ℕ). s ++ crewsFrom staff crews betweenCrews (suc j))
+    (mark-joined mark betweenMembers (names staff (getD crews j 0)) (some-names staff (getD crews j 0) h n))
 
 -- an empty one is the end, and so is the end of the list
 pub crew-stop : (staff crews : List ℕ) (mark j : ℕ) → j < length crews → getD crews j 0 ≡ 0 → crewsFrom staff crews mark j ≡ []
 unfolding marked
 crew-stop staff crews mark j l e =
-    ap (λ (s : List ℕ). marked mark slash (map (setText staff) s)) (ap filled (drop-cons crews j 0 l) ∙ filled-stop (getD crews j 0) (drop (suc j) crews) e)
+    ap (λ (s : List ℕ). marked mark betweenCrews (map (setText staff) s)) (ap filled (drop-cons crews j 0 l) ∙ filled-stop (getD crews j 0) (drop (suc j) crews) e)
 
 pub crew-last : (staff crews : List ℕ) (mark j : ℕ) → length crews ≤ j → crewsFrom staff crews mark j ≡ []
 unfolding marked filled
 crew-last staff crews mark j l =
-    ap (λ (s : List ℕ). marked mark slash (map (setText staff) (filled s))) (drop-of-length-le crews l)
+    ap (λ (s : List ℕ). marked mark betweenCrews (map (setText staff) (filled s))) (drop-of-length-le crews l)

@@ -1,5 +1,5 @@
-pub mod Text
 pub mod Lines
 pub mod Sheet
 pub mod BookB
+pub mod Examples
 pub mod Laws

@@ -66,6 +66,10 @@ sheetOf book = sheetBy book (readOf book)
 abbrev pub longest : ℕ
 longest = 23232
 
+-- so many bytes of a string decide its sheet (`sheet-front`): one more than the longest book has
+abbrev pub enough : ℕ
+enough = 804
+
 -- What is promised: where the buffer is long enough for any sheet, this book's sheet stands at its front, and the rest of it is as it was; a
 -- shorter buffer is answered as too short and is as it was.
 pub record Promised (book old new : List ℕ) (r : Writing) : Type 0 where

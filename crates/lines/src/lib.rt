@@ -1,6 +1,6 @@
 // The sheet: its whole text as a function of a book's bytes, into a buffer that the caller lends. What stands there is said by `sheetOf` in
 // specs/Sheet.antt, which is made of the reader's reply and of the replies to the policies: so the "yes" that is printed is the one proved.
-mod text;
+mod field;
 
 use book::Listed;
 use book::Reading;
@@ -10,19 +10,19 @@ use roster::Reply;
 use roster::Table;
 use roster::Verdict;
 ghost use mathlib.Core.Path.{_≡_};
-ghost use mathlib.Core.List.{List, _∷_};
-ghost use Prim.Native.Nat.{_<_};
 ghost use lib.ListN.{length};
 ghost use Rattle.roster.specs.Limits.{crewLimit};
 ghost use Rattle.absences.specs.Asked.{PolicyReply};
 ghost use Rattle.absences.specs.Replied.{policyReplyOf};
 ghost use Rattle.book.specs.Parts.{staffAt, tableOf, policyCount, policyAt};
-ghost use Rattle.lines.specs.Text.{Room, Appended, space};
-ghost use Rattle.lines.specs.Lines.{verdictWord, setsText, lineOf, badLine};
-ghost use Rattle.lines.specs.Sheet.{allowance, way, staffOr0, staffOf, lineBy, linesFrom, longest, Promised};
+ghost use Rattle.text.specs.Text.{Appended};
+ghost use Rattle.lines.specs.Lines.{verdictWord, lineOf, badLine};
+ghost use Rattle.lines.specs.Sheet.{allowance, way, staffOr0, staffOf, lineBy, linesFrom, longest, enough, Promised};
 
 // No sheet is longer: 32 lines of at most 726 bytes each.
 pub const LONGEST: usize = 23232;
+// So many bytes of an input decide its sheet: one more than the longest book has.
+pub const ENOUGH: usize = 804;
 // The units that each policy may take.
 const ALLOWANCE: u32 = 1000000;
 
@@ -32,37 +32,21 @@ pub enum Writing {
     TooShort,
 }
 
-// A verdict's word.
+// A verdict's word; nothing for one that has none.
 fn verdict_word(out: &mut [u8], at: usize, verdict: Verdict) -> usize
-    requires { ⌜ Room (verdictWord verdict) (now out) at ⌝ }
     ensures { λ r. ⌜ Appended (verdictWord verdict) (now (out .entry)) at (now (out .exit)) r ⌝ }
 {
     match verdict {
         Verdict::Yes => text::word(out, at, b"yes"),
         Verdict::No => text::word(out, at, b"no"),
-        _ => text::word(out, at, b"undecided"),
-    }
-}
-
-// The sets that go with the verdict, after a space.
-fn sets_field(out: &mut [u8], at: usize, staff: &[u32; Policy::ROWS], reply: Reply) -> usize
-    requires { ⌜ (length (reply .crews) ≡ crewLimit) × Room (space ∷ setsText (now staff) reply (reply .verdict)) (now out) at ⌝ }
-    ensures { λ r. ⌜ Appended (space ∷ setsText (now (staff .entry)) reply (reply .verdict)) (now (out .entry)) at (now (out .exit)) r ⌝ }
-{
-    let verdict = reply.verdict;
-    match verdict {
-        Verdict::Yes => {
-            let crews = reply.crews;
-            text::all_crews(out, at, staff, &crews)
-        }
-        Verdict::No => text::one_set(out, at, staff, reply.blocker),
-        _ => text::no_set(out, at),
+        Verdict::Undecided => text::word(out, at, b"undecided"),
+        _ => at,
     }
 }
 
 // The line of a policy's reply.
 fn line(out: &mut [u8], at: usize, staff: &[u32; Policy::ROWS], index: usize, reply: Reply) -> usize
-    requires { ⌜ (length (reply .crews) ≡ crewLimit) × Room (lineOf (now staff) index reply) (now out) at ⌝ }
+    requires { ⌜ length (reply .crews) ≡ crewLimit ⌝ }
     ensures { λ r. ⌜ Appended (lineOf (now (staff .entry)) index reply) (now (out .entry)) at (now (out .exit)) r ⌝ }
 {
     let verdict = reply.verdict;
@@ -70,13 +54,12 @@ fn line(out: &mut [u8], at: usize, staff: &[u32; Policy::ROWS], index: usize, re
     let spaced = text::put(out, counted, b' ');
     let judged = verdict_word(out, spaced, verdict);
     let spent = text::number(out, judged, b' ', text::wide(reply.units));
-    let named = sets_field(out, spent, staff, reply);
+    let named = field::sets_field(out, spent, staff, reply);
     text::put(out, named, b'\n')
 }
 
 // The line of a refused book, at the front.
 fn bad_line(out: &mut [u8], fault: u32, place: usize) -> usize
-    requires { ⌜ Room (badLine fault place) (now out) 0 ⌝ }
     ensures { λ r. ⌜ Appended (badLine fault place) (now (out .entry)) 0 (now (out .exit)) r ⌝ }
 {
     let called = text::word(out, 0, b"bad");
@@ -129,7 +112,6 @@ fn asked(
     crews: usize,
     size: u32,
 ) -> usize
-    requires { ⌜ Room (lineOf (now staff) index (policyReplyOf way table task away crews size allowance)) (now out) at ⌝ }
     ensures { λ r. ⌜ Appended (lineOf (now (staff .entry)) index (policyReplyOf way table task away crews size allowance)) (now (out .entry)) at (now (out .exit)) r ⌝ }
 {
     let reply = reply_of(table, task, away, crews, size);
@@ -145,7 +127,7 @@ fn policy_line(
     table: Table,
     index: usize,
 ) -> usize
-    requires { ⌜ (now staff ≡ staffOf (now book)) × (table ≡ tableOf (now book)) × Room (lineBy (now book) index (policyAt (now book) index)) (now out) at ⌝ }
+    requires { ⌜ (now staff ≡ staffOf (now book)) × (table ≡ tableOf (now book)) ⌝ }
     ensures { λ r. ⌜ Appended (lineBy (now (book .entry)) index (policyAt (now (book .entry)) index)) (now (out .entry)) at (now (out .exit)) r ⌝ }
 {
     match book::policy_at(book, index) {
@@ -166,7 +148,6 @@ fn policy_line(
 
 // The lines of all policies in book order, from the front of the buffer on.
 fn all_lines(book: &[u8], out: &mut [u8]) -> usize
-    requires { ⌜ Room (linesFrom (now book) 0 (policyCount (now book))) (now out) 0 ⌝ }
     ensures { λ r. ⌜ Appended (linesFrom (now (book .entry)) 0 (policyCount (now (book .entry)))) (now (out .entry)) 0 (now (out .exit)) r ⌝ }
 {
     let table = book::table_of(book);
@@ -185,7 +166,7 @@ fn all_lines(book: &[u8], out: &mut [u8]) -> usize
 pub fn sheet(book: &[u8], out: &mut [u8]) -> Writing
     ensures sheet { λ r. ⌜ Promised (now (book .entry)) (now (out .entry)) (now (out .exit)) r ⌝ }
     ensures kept { λ _. ⌜ now (book .exit) ≡ now (book .entry) ⌝ }
-    ensures limit { λ _. do ⌜ (← ⟦LONGEST⟧ .entry) ≡ longest ⌝ }
+    ensures limits { λ _. do ⌜ ((← ⟦LONGEST⟧ .entry) ≡ longest) × ((← ⟦ENOUGH⟧ .entry) ≡ enough) ⌝ }
 {
     if out.len() < LONGEST {
         return Writing::TooShort;

@@ -1,4 +1,4 @@
 pub mod Printed
 pub mod Words
-pub mod Cut
+pub mod BookB
 pub mod Laws

@@ -8,10 +8,9 @@ use Rattle.roster.specs.Meaning.{CrewList, Blocks, Absence, FirstBlocker}
 use Rattle.roster.specs.declared.Policy.{Policy}
 use Rattle.book.specs.Layout.{Contents}
 use Rattle.book.specs.Promises.{Bytes, tableFor}
-use Rattle.lines.specs.Text.{decimal}
-use Rattle.lines.specs.Lines.{yes, no, undecided}
+use Rattle.text.specs.Text.{quoted, decimal}
 use Rattle.lines.specs.Sheet.{allowance, sheetOf}
-use Rattle.printed.specs.Cut.{_␣_, HasLine}
+use Rattle.text.specs.Cut.{_␣_, HasLine}
 use Rattle.printed.specs.Words.{PolicyOf, needOf, namesOf}
 use Rattle.printed.specs.Laws.Lines.{number-parted}
 use Rattle.printed.specs.Laws.Said.{line-policy, yes-printed, no-names, undecided-printed}
@@ -19,7 +18,7 @@ use Rattle.printed.specs.Laws.Said.{line-policy, yes-printed, no-names, 
 module _ (book : List ℕ) (bytes : Bytes book) (i : ℕ) where
   -- `i yes ..`: whoever is away, as long as they are at most s, there are still d separate crews of at most t, each holding every permission of the
   -- task, and nobody who is away is in one of them.
-  pub printed-yes : (rest : List ℕ) → HasLine (sheetOf book) (decimal i ␣ yes ␣ rest)
+  pub printed-yes : (rest : List ℕ) → HasLine (sheetOf book) (decimal i ␣ quoted "yes" ␣ rest)
       → (v : Contents) × (p : Policy) × PolicyOf book i v p
       × ((A : ℕ) → Absence (tableFor v) (p .away) A → (crews : List ℕ) × CrewList (tableFor v) (p .task) (p .crews) (p .size) A crews)
   printed-yes rest line =
@@ -28,7 +27,7 @@ module _ (book : List ℕ) (bytes : Bytes book) (i : ℕ) where
 
   -- `i no u NAMES`: with exactly these people away, who are at most s, there are no such crews; and they are the first such absence. NAMES are their
   -- staff numbers in row order, joined by commas; `-` where it takes nobody to be away.
-  pub printed-no : (units : ℕ) (names : List ℕ) → HasLine (sheetOf book) (decimal i ␣ no ␣ decimal units ␣ names)
+  pub printed-no : (units : ℕ) (names : List ℕ) → HasLine (sheetOf book) (decimal i ␣ quoted "no" ␣ decimal units ␣ names)
       → (v : Contents) × (p : Policy) × PolicyOf book i v p
       × (A : ℕ) × (names ≡ namesOf v A) × Absence (tableFor v) (p .away) A × Blocks (tableFor v) (p .task) (p .crews) (p .size) A
       × FirstBlocker (tableFor v) (p .task) (p .away) (p .crews) (p .size) A
@@ -38,7 +37,7 @@ module _ (book : List ℕ) (bytes : Bytes book) (i : ℕ) where
       (v, p, o, A, number-parted units (needOf v p) names (namesOf v A) said .1, record { rows = first .rows; few = first .is .0 }, first .is .1, first)
 
   -- `i undecided ..`: deciding it takes more than 1,000,000 units. It says neither yes nor no.
-  pub printed-undecided : (rest : List ℕ) → HasLine (sheetOf book) (decimal i ␣ undecided ␣ rest)
+  pub printed-undecided : (rest : List ℕ) → HasLine (sheetOf book) (decimal i ␣ quoted "undecided" ␣ rest)
       → (v : Contents) × (p : Policy) × PolicyOf book i v p × (allowance < needOf v p)
   printed-undecided rest line =
       let (v, p, o) = line-policy book bytes i _ line in

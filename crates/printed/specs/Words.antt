@@ -14,9 +14,9 @@ use Rattle.absences.specs.Tried.{Way, skipping}
 use Rattle.absences.specs.Asked.{Admits, needPolicy, PolicyReply}
 use Rattle.book.specs.Layout.{Contents, Row, LayoutOf}
 use Rattle.book.specs.Promises.{tableFor}
-use Rattle.lines.specs.Text.{comma, decimal, joined}
+use Rattle.text.specs.Text.{comma, decimal, joined}
 use Rattle.lines.specs.Sheet.{allowance, sheetOf}
-use Rattle.printed.specs.Cut.{_␣_, HasLine}
+use Rattle.text.specs.Cut.{_␣_, HasLine}
 
 -- ---- a policy of a book
 

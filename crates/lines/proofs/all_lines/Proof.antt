@@ -1,12 +1,12 @@
 -- The loop writes one policy's line after the other. Its measure is how many are left. Assumes nothing.
 use mathlib.Core.Path.{_≡_, sym, ap}
 use mathlib.Core.List.{List, [], _++_}
-use Prim.Native.Nat.{ℕ, suc, _+_, _-_, _≤_, _<_}
+use Prim.Native.Nat.{ℕ, suc, _-_, _≤_, _<_}
 use native.Mathlib.Numerals.{add-one}
 use native.Mathlib.Omega.{arith}
 use Rattle.book.specs.Parts.{policyCount, policyAt}
 use Rattle.lines.specs.Sheet.{lineBy, linesFrom}
-use Rattle.lines.proofs.Appends.{SoFar, begin, step, fits, with-rest, finish, same, room-as, read-as}
+use Rattle.text.specs.Laws.Appends.{SoFar, begin, step, with-rest, finish, same, read-as}
 use Rattle.lines.proofs.all_lines.Statement.{statement}
 use Rattle.lines.proofs.all_lines.Tie as tie
 
@@ -48,16 +48,8 @@ all c = ap (linesFrom (c .before .before .before .before .before .args .book .no
 
 policy-line-requires : tie.Need-policy-line-requires Inv-loop μ-loop
 policy-line-requires c κs =
-    let l = c .before .before .before .loop in
     let p = c .before .before .before .before in
-    let s = p .before .before .before .before .before in
-    let book = s .args .book .now in
-    let count = p .policy-count .result in (
-      p .before .all-staff .ensures,
-      p .before .before .table-of .ensures .0,
-      fits (lineBy book (l .index) (policyAt book (l .index))) (linesFrom book (suc (l .index)) (count - suc (l .index)))
-          (with-rest (next book (l .index) count (c .before .before .loop-test .taken)) (l .inv .1)) (room-as (s .args .out .now) 0 (sym (all p)) (s .pre)),
-    )
+    (p .before .all-staff .ensures, p .before .before .table-of .ensures .0)
 
 add-index : tie.Need-add-index Inv-loop μ-loop
 add-index c = omega arith

@@ -1,5 +1,5 @@
 -- What the search replies is the one reply that is allowed (`policy-same`), and it has eight crews. Assumes nothing.
-use mathlib.Core.Path.{_≡_, sym, ap, _∙_}
+use mathlib.Core.Path.{_≡_, ap, _∙_}
 use Prim.Native.Nat.{ℕ, _^_, _<_}
 use lib.ListN.{length}
 use Rattle.roster.specs.Limits.{crewLimit}
@@ -12,7 +12,7 @@ use Rattle.absences.specs.Laws.Decided.{Case, is-refused, is-undecided, is-yes,
 use Rattle.absences.specs.Laws.Demands.{policy-same, policy-allowed}
 use Rattle.lines.specs.Lines.{lineOf}
 use Rattle.lines.specs.Sheet.{allowance, way}
-use Rattle.lines.proofs.Appends.{read-as, room-as}
+use Rattle.text.specs.Laws.Appends.{read-as}
 use borrow.Author.Needs.{needs}
 use Rattle.lines.proofs.asked.Statement.{statement}
 use Rattle.lines.proofs.asked.Tie as tie
@@ -52,10 +52,8 @@ line-requires : tie.Need-line-requires
 line-requires c κs =
     let p = c .before in
     let s = p .before .before in
-    let a = s .args in (
-      eight (a .table) (a .task) (a .away) (a .crews) (a .size) (s .fits .task .fits) (p .reply-of .result) (p .reply-of .ensures),
-      room-as (a .out .now) (a .at) (sym (answered p)) (s .pre),
-    )
+    let a = s .args in
+    eight (a .table) (a .task) (a .away) (a .crews) (a .size) (s .fits .task .fits) (p .reply-of .result) (p .reply-of .ensures)
 
 same-length : tie.Need-same-length
 same-length c = search needs

@@ -1,83 +1,47 @@
--- As in `line`: the word, the number, the place and the newline one after the other. Assumes nothing.
-use mathlib.Core.Path.{_≡_, sym, ap}
-use mathlib.Core.List.{List, [], _∷_, _++_, append-assoc, append-nil}
+-- As in `line`: the word, the number, the place and the newline one after the other are the line. Assumes nothing.
+use mathlib.Core.Path.{_≡_, ap}
+use mathlib.Core.List.{[], _∷_, _++_, append-assoc, append-nil}
 use Prim.Native.Nat.{ℕ}
-use Rattle.lines.specs.Text.{space, newline, decimal, marked, joined}
-use Rattle.lines.specs.Lines.{bad, badLine}
-use Rattle.lines.proofs.Appends.{SoFar, begin, step, fits, with-rest, finish, read-as, room-as}
+use Rattle.text.specs.Text.{quoted, space, newline, decimal, marked, joined}
+use Rattle.text.specs.Laws.Appends.{_then_, read-as}
+use Rattle.lines.specs.Lines.{badLine}
 use borrow.Author.Needs.{needs}
 use Rattle.lines.proofs.bad_line.Statement.{statement}
 use Rattle.lines.proofs.bad_line.Tie as tie
 
--- what is left after the number and after the word
-abbrev fromPlace : ℕ → List ℕ
-fromPlace place = (space ∷ decimal place) ++ (newline ∷ [])
-
-abbrev fromNumber : ℕ → ℕ → List ℕ
-fromNumber fault place = (space ∷ decimal fault) ++ fromPlace place
-
-parts : (fault place : ℕ) → badLine fault place ≡ bad ++ fromNumber fault place
+parts : (fault place : ℕ) → quoted "bad" ++ (space ∷ decimal fault) ++ (space ∷ decimal place) ++ (newline ∷ []) ≡ badLine fault place
 unfolding badLine marked joined
 parts fault place = simp (append-assoc, append-nil)
-
-abbrev theLine : tie.Start → List ℕ
-theLine s = badLine (s .args .fault) (s .args .place)
-
-up-to-word : (s : tie.Start) → SoFar (theLine s) (bad ++ fromNumber (s .args .fault) (s .args .place)) (s .args .out .now) 0 (s .args .out .now) 0
-up-to-word s = with-rest (parts (s .args .fault) (s .args .place)) (begin _ _ _)
-
-up-to-number : (c : tie.After-word)
-    → let s = c .before .before .before .before in
-    SoFar (theLine s) (fromNumber (s .args .fault) (s .args .place)) (s .args .out .now) 0 (c .word .last .0) (c .word .result)
-up-to-number c = step bad (up-to-word (c .before .before .before .before)) (c .word .ensures)
-
-up-to-place : (c : tie.After-number)
-    → let s = c .before .before .before .before .before .before .before .before .before in
-    SoFar (theLine s) (fromPlace (s .args .place)) (s .args .out .now) 0 (c .number .last .0) (c .number .result)
-up-to-place c =
-    let s = c .before .before .before .before .before .before .before .before .before in
-    step (space ∷ decimal (s .args .fault)) (up-to-number (c .before .before .before .before .before))
-    (read-as (ap (λ (n : ℕ). space ∷ decimal n) (c .before .wide .ensures)) (c .number .ensures))
-
-up-to-newline : (c : tie.After-number2)
-    → let s = c .before .before .before .before .before .before .before .before .before .before .before .before .before in
-    SoFar (theLine s) (newline ∷ []) (s .args .out .now) 0 (c .number2 .last .0) (c .number2 .result)
-up-to-newline c =
-    let s = c .before .before .before .before .before .before .before .before .before .before .before .before .before in
-    step (space ∷ decimal (s .args .place)) (up-to-place (c .before .before .before .before)) (c .number2 .ensures)
 
 slice-aggregate-word : tie.Need-slice-aggregate-word
 slice-aggregate-word c = search needs
 
 word-requires : tie.Need-word-requires
-word-requires c κs =
-    let s = c .before .before .before in
-    fits bad (fromNumber (s .args .fault) (s .args .place)) (up-to-word s) (s .pre)
+word-requires c κs = search needs
 
 wide-requires : tie.Need-wide-requires
 wide-requires c κs = search needs
 
 number-requires : tie.Need-number-requires
-number-requires c κs =
-    let p = c .before .before .before .before in
-    let s = p .before .before .before .before in
-    room-as (p .word .last .0) (p .word .result) (ap (λ (n : ℕ). space ∷ decimal n) (sym (c .wide .ensures)))
-    (fits (space ∷ decimal (s .args .fault)) (fromPlace (s .args .place)) (up-to-number p) (s .pre))
+number-requires c κs = search needs
 
 number-requires-2 : tie.Need-number-requires-2
-number-requires-2 c κs =
-    let p = c .before .before .before in
-    let s = p .before .before .before .before .before .before .before .before .before in
-    fits (space ∷ decimal (s .args .place)) (newline ∷ []) (up-to-place p) (s .pre)
+number-requires-2 c κs = search needs
 
 put-requires : tie.Need-put-requires
-put-requires c κs = fits (newline ∷ []) [] (up-to-newline (c .before .before .before)) (c .before .before .before .before .before .before .before .before .before .before .before .before .before .before .before .before .pre)
+put-requires c κs = search needs
 
 same-length : tie.Need-same-length
 same-length c = search needs
 
 returns : tie.Need-returns
-returns c = finish (step (newline ∷ []) (up-to-newline (c .before .before .before .before .before .before)) (c .before .before .put .ensures))
+returns c =
+    let placed = c .before .before .before .before .before .before in
+    let numbered = placed .before .before .before .before in
+    let called = numbered .before .before .before .before .before in
+    let a = called .before .before .before .before .args in
+    let fault = read-as (ap (λ (n : ℕ). space ∷ decimal n) (numbered .before .wide .ensures)) (numbered .number .ensures) in
+    read-as (parts (a .fault) (a .place)) (called .word .ensures .0 then fault then placed .number2 .ensures then c .before .before .put .ensures)
 
 pub bad-line-spec : {M : Type 1} → statement M
 bad-line-spec =

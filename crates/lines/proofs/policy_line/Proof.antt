@@ -10,7 +10,7 @@ use Rattle.book.specs.declared.Listed.{Listed}
 use Rattle.book.specs.declared.Listed.the-variants as listed
 use Rattle.lines.specs.Lines.{lineOf}
 use Rattle.lines.specs.Sheet.{allowance, way, staffOf, replyTo, lineBy}
-use Rattle.lines.proofs.Appends.{none, read-as, room-as}
+use Rattle.text.specs.Laws.Appends.{none, read-as}
 use borrow.Author.Needs.{needs}
 use Rattle.lines.proofs.policy_line.Statement.{statement}
 use Rattle.lines.proofs.policy_line.Tie as tie
@@ -46,9 +46,7 @@ enum-known-policy : tie.Need-enum-known-policy
 enum-known-policy c = search needs
 
 asked-requires : tie.Need-asked-requires
-asked-requires c κs =
-    let s = c .before .before .before .before .before .before .before in
-    room-as (s .args .out .now) (s .args .at) (line-there (c .before .before)) (s .pre .2)
+asked-requires c κs = search needs
 
 enum-told : tie.Need-enum-told
 enum-told c = search needs

@@ -15,11 +15,11 @@ use Rattle.book.specs.declared.Starts.{Starts}
 use Rattle.book.specs.declared.Reading.{Reading}
 use Rattle.book.specs.declared.Reading.the-variants.{Good, Refused}
 use Rattle.lines.specs.declared.Writing.the-variants.{Written}
-use Rattle.lines.specs.Text.{Room, Appended}
+use Rattle.text.specs.Text.{Room, Appended}
 use Rattle.lines.specs.Lines.{badLine}
 use Rattle.lines.specs.Sheet.{linesFrom, sheetBy, sheetOf, longest, Promised}
 use Rattle.lines.specs.Laws.Fits.{sheet-fits}
-use Rattle.lines.proofs.Appends.{read-as, room-as}
+use Rattle.text.specs.Laws.Appends.{read-as, all-stand, all-past}
 use borrow.Author.Needs.{needs}
 use Rattle.lines.proofs.sheet.Statement.{statement}
 use Rattle.lines.proofs.sheet.Tie as tie
@@ -33,8 +33,8 @@ module _ (book old : List ℕ) (bytes : Bytes book) (long : longest ≤ length o
   promised : (new : List ℕ) (n : ℕ) → Appended (sheetOf book) old 0 new n → Promised book old new (Written n)
   promised new n a = record {
     written = λ h. (
-      ap Written (a .past ∙ front),
-      a .stand ∙ sets-eq (sheetOf book) old 0 roomy ∙ ap (λ (k : ℕ). sheetOf book ++ drop k old) front,
+      ap Written (all-past roomy a ∙ front),
+      all-stand roomy a ∙ sets-eq (sheetOf book) old 0 roomy ∙ ap (λ (k : ℕ). sheetOf book ++ drop k old) front,
     );
     short = λ h. absurd (omega arith);
   }
@@ -65,13 +65,13 @@ lines c =
     let p = c .before .before in
     good (c .before .before .before .before .before .before .args .book .now) (p .read .result) (c .enum-told .given .0 .0) (p .read .ensures .0) (c .enum-told .given .1)
 
--- the book is a byte string, and the buffer is long enough
+-- the book is a byte string
 is-bytes : (c : tie.After-shared-slice-known) → Bytes (c .before .args .book .now)
 is-bytes c i = c .shared-slice-known .given i .fits
 
 returns : tie.Need-returns
 returns c =
-    (record { written = λ h. absurd (omega arith); short = λ h. (refl, refl) }, (refl, refl))
+    (record { written = λ h. absurd (omega arith); short = λ h. (refl, refl) }, (refl, (refl, refl)))
 
 read-requires : tie.Need-read-requires
 read-requires c κs = search needs
@@ -83,18 +83,13 @@ number-requires : tie.Need-number-requires
 number-requires c κs = search needs
 
 bad-line-requires : tie.Need-bad-line-requires
-bad-line-requires c κs =
-    let a = c .before .before .before .before .before .before .before .before .before .args in
-    room-as (a .out .now) 0 (sym (bad c)) (roomy (a .book .now) (a .out .now) (is-bytes (c .before .before .before .before .before .before .before .before)) (c .before .before .before .before .before .before .if1 .left))
+bad-line-requires c κs = search needs
 
 enum-told : tie.Need-enum-told
 enum-told c = search needs
 
 all-lines-requires : tie.Need-all-lines-requires
-all-lines-requires c κs =
-    let p = c .before in
-    let a = p .before .before .before .before .before .before .args in
-    room-as (a .out .now) 0 (sym (lines p)) (roomy (a .book .now) (a .out .now) (is-bytes (p .before .before .before .before .before)) (p .before .before .before .if1 .left))
+all-lines-requires c κs = search needs
 
 same-length : tie.Need-same-length
 same-length c = search needs
@@ -103,7 +98,7 @@ returns-2 : tie.Need-returns-2
 returns-2 c =
     let p = c .before .before .before in
     let a = p .before .before .before .before .before .before .before .before .before .args in
-    (promised (a .book .now) (a .out .now) (is-bytes (p .before .before .before .before .before .before .before .before)) (p .before .before .before .before .before .before .if1 .left) _ _ (read-as (bad p) (c .before .before .bad-line .ensures)), (refl, refl))
+    (promised (a .book .now) (a .out .now) (is-bytes (p .before .before .before .before .before .before .before .before)) (p .before .before .before .before .before .before .if1 .left) _ _ (read-as (bad p) (c .before .before .bad-line .ensures)), (refl, (refl, refl)))
 
 same-length-2 : tie.Need-same-length-2
 same-length-2 c = search needs
@@ -112,7 +107,7 @@ returns-3 : tie.Need-returns-3
 returns-3 c =
     let p = c .before .before .before .before in
     let a = p .before .before .before .before .before .before .args in
-    (promised (a .book .now) (a .out .now) (is-bytes (p .before .before .before .before .before)) (p .before .before .before .if1 .left) _ _ (read-as (lines p) (c .before .before .all-lines .ensures)), (refl, refl))
+    (promised (a .book .now) (a .out .now) (is-bytes (p .before .before .before .before .before)) (p .before .before .before .if1 .left) _ _ (read-as (lines p) (c .before .before .all-lines .ensures)), (refl, (refl, refl)))
 
 pub sheet-spec : {M : Type 1} → statement M
 sheet-spec =

@@ -1,23 +1,11 @@
 -- Each arm writes the word of its verdict. Assumes nothing.
-use mathlib.Core.Path.{_≡_, sym, ap}
-use Rattle.roster.specs.declared.Verdict.{Verdict}
-use Rattle.roster.specs.declared.Verdict.the-variants.{Yes, No}
-use native.Mathlib.Omega.{arith}
-use Rattle.lines.specs.Text.{Room}
-use Rattle.lines.specs.Lines.{yes, no, verdictWord}
-use Rattle.lines.proofs.Appends.{read-as, room-as}
-use Rattle.lines.proofs.Verdicts.{open-word}
+use mathlib.Core.Path.{sym, ap}
+use Rattle.text.specs.Laws.Appends.{none, read-as}
+use Rattle.lines.specs.Lines.{verdictWord}
+use Rattle.lines.proofs.Verdicts.{no-word}
 use borrow.Author.Needs.{needs}
 use Rattle.lines.proofs.verdict_word.Statement.{statement}
 use Rattle.lines.proofs.verdict_word.Tie as tie
-
-is-yes : {v : Verdict} → v ≡ Yes → verdictWord v ≡ yes
-unfolding verdictWord
-is-yes e = ap verdictWord e
-
-is-no : {v : Verdict} → v ≡ No → verdictWord v ≡ no
-unfolding verdictWord
-is-no e = ap verdictWord e
 
 enum-told : tie.Need-enum-told
 enum-told c = search needs
@@ -26,10 +14,7 @@ slice-aggregate-word : tie.Need-slice-aggregate-word
 slice-aggregate-word c = search needs
 
 word-requires : tie.Need-word-requires
-word-requires c κs =
-    let s = c .before .before .before .before .before in
-    let room : Room yes (s .args .out .now) (s .args .at) = room-as (s .args .out .now) (s .args .at) (is-yes (c .before .before .enum-told .given .1)) (s .pre) in
-    omega (arith, room)
+word-requires c κs = search needs
 
 enum-told-2 : tie.Need-enum-told-2
 enum-told-2 c = search needs
@@ -38,38 +23,40 @@ slice-aggregate-word-2 : tie.Need-slice-aggregate-word-2
 slice-aggregate-word-2 c = search needs
 
 word-requires-2 : tie.Need-word-requires-2
-word-requires-2 c κs =
-    let s = c .before .before .before .before .before in
-    let room : Room no (s .args .out .now) (s .args .at) = room-as (s .args .out .now) (s .args .at) (is-no (c .before .before .enum-told2 .given .1)) (s .pre) in
-    omega (arith, room)
+word-requires-2 c κs = search needs
+
+enum-told-3 : tie.Need-enum-told-3
+enum-told-3 c = search needs
 
 slice-aggregate-word-3 : tie.Need-slice-aggregate-word-3
 slice-aggregate-word-3 c = search needs
 
 word-requires-3 : tie.Need-word-requires-3
-word-requires-3 c κs =
-    let s = c .before .before .before .before in
-    room-as (s .args .out .now) (s .args .at) (open-word (s .args .verdict) (c .before .before .match .keys3)) (s .pre)
+word-requires-3 c κs = search needs
 
 same-length : tie.Need-same-length
 same-length c = search needs
 
 returns : tie.Need-returns
-returns c = read-as (sym (is-yes (c .before .before .before .before .before .enum-told .given .1))) (c .before .before .word .ensures)
+unfolding verdictWord
+returns c = read-as (ap verdictWord (sym (c .before .before .before .before .before .enum-told .given .1))) (c .before .before .word .ensures .0)
 
 same-length-2 : tie.Need-same-length-2
 same-length-2 c = search needs
 
 returns-2 : tie.Need-returns-2
-returns-2 c = read-as (sym (is-no (c .before .before .before .before .before .enum-told2 .given .1))) (c .before .before .word2 .ensures)
+unfolding verdictWord
+returns-2 c = read-as (ap verdictWord (sym (c .before .before .before .before .before .enum-told2 .given .1))) (c .before .before .word2 .ensures .0)
 
 same-length-3 : tie.Need-same-length-3
 same-length-3 c = search needs
 
 returns-3 : tie.Need-returns-3
-returns-3 c =
-    let p = c .before .before .before .before .before in
-    read-as (sym (open-word (p .before .before .args .verdict) (p .match .keys3))) (c .before .before .word3 .ensures)
+unfolding verdictWord
+returns-3 c = read-as (ap verdictWord (sym (c .before .before .before .before .before .enum-told3 .given .1))) (c .before .before .word3 .ensures .0)
+
+returns-4 : tie.Need-returns-4
+returns-4 c = read-as (sym (no-word (c .before .before .args .verdict) (c .match .keys4))) (none _ _)
 
 pub verdict-word-spec : {M : Type 1} → statement M
 verdict-word-spec =
@@ -81,6 +68,7 @@ verdict-word-spec =
     enum-told-2
     slice-aggregate-word-2
     word-requires-2
+    enum-told-3
     slice-aggregate-word-3
     word-requires-3
     same-length
@@ -88,4 +76,5 @@ verdict-word-spec =
     same-length-2
     returns-2
     same-length-3
-    returns-3)
+    returns-3
+    returns-4)

@@ -1,6 +1,6 @@
 -- No sheet is longer than `longest`: at most 32 lines, each of at most 726 bytes, since a line names each row at most once. Assumes nothing.
 use mathlib.Core.Path.{_≡_, refl, sym, ap, subst}
-use mathlib.Core.Logic.{_⊎_, ⊎-elim}
+use mathlib.Core.Logic.{⊎-elim}
 use mathlib.Core.List.{List, [], _∷_, _++_, map}
 use Prim.Native.Nat.{ℕ, zero, suc, _+_, _-_, _*_, _^_, _≤_, _<_}
 use native.Mathlib.Nat.{lt-of-lt-of-le}
@@ -50,10 +50,10 @@ use Rattle.book.specs.declared.Before.the-variants.{Nothing, Entry}
 use Rattle.book.specs.declared.Reading.{Reading}
 use Rattle.book.specs.declared.Place.{Place}
 use Rattle.book.specs.declared.Place.the-variants as place
-use Rattle.lines.specs.Text.{comma, slash, decimal, marked, joined}
-use Rattle.lines.specs.Lines.{verdictWord, names, setText, filled, crewsText, setsText, lineOf, badLine}
+use Rattle.text.specs.Text.{decimal, marked, joined}
+use Rattle.lines.specs.Lines.{verdictWord, names, betweenMembers, setText, filled, betweenCrews, crewsText, setsText, lineOf, badLine}
 use Rattle.lines.specs.Sheet.{allowance, way, staffOr0, staffOf, replyTo, lineBy, linesFrom, sheetBy, sheetOf, longest}
-use Rattle.lines.specs.Laws.Decimal.{decimal-length}
+use Rattle.text.specs.Laws.Decimal.{decimal-length}
 use Rattle.sets.specs.Laws.Unions.{onesOf, Disjoint, disjoint-few}
 
 -- ---- how long lists are written
@@ -91,14 +91,14 @@ module _ (staff : List ℕ) (fits : (row : ℕ) → getD staff row 0 < 2 ^ 32) w
   few set h = ones-bound set 64 (λ i b. bit-below set 64 i h b)
 
   set-length : (set : ℕ) → set < 2 ^ 64 → length (setText staff set) ≤ 704
-  set-length set h = joined-length comma 704 (names staff set) (omega (arith, names-total set h, few set h)) (omega arith)
+  set-length set h = joined-length betweenMembers 704 (names staff set) (omega (arith, names-total set h, few set h)) (omega arith)
 
   -- a crew after its mark
   crew-length : (crew : ℕ) → suc crew < 2 ^ 64 → 1 + length (setText staff (suc crew)) ≤ 11 * ones (suc crew)
   crew-length crew h =
       let n = ones-pos (suc crew) (omega arith) in
       let t = names-total (suc crew) h in
-      omega (arith, joined-length comma (11 * (ones (suc crew) - 1) + 10) (names staff (suc crew)) (omega arith) (omega arith))
+      omega (arith, joined-length betweenMembers (11 * (ones (suc crew) - 1) + 10) (names staff (suc crew)) (omega arith) (omega arith))
 
   crews-total : (crews : List ℕ) → ((j : ℕ) → getD crews j 0 < 2 ^ 64) → total (map (setText staff) (filled crews)) ≤ 11 * onesOf crews
   unfolding total filled onesOf
@@ -108,7 +108,7 @@ module _ (staff : List ℕ) (fits : (row : ℕ) → getD staff row 0 < 2 ^ 32) w
 
   crews-length : (crews : List ℕ) → Disjoint crews → ((j : ℕ) → getD crews j 0 < 2 ^ 64) → length (crewsText staff crews) ≤ 704
   crews-length crews d h =
-      joined-length slash 704 (map (setText staff) (filled crews)) (omega (arith, crews-total crews h, disjoint-few 64 crews d h)) (omega arith)
+      joined-length betweenCrews 704 (map (setText staff) (filled crews)) (omega (arith, crews-total crews h, disjoint-few 64 crews d h)) (omega arith)
 
 -- ---- a line
 

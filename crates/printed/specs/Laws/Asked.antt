@@ -19,10 +19,10 @@ use Rattle.absences.specs.Laws.Demands.{Tells, policy-allowed, policy-exactly}
 use Rattle.book.specs.Layout.{Contents, Each, PolicyFits}
 use Rattle.book.specs.Promises.{tableFor}
 use Rattle.book.specs.Laws.Parts.{layout-parts}
-use Rattle.lines.specs.Text.{newline}
+use Rattle.text.specs.Text.{newline}
 use Rattle.lines.specs.Lines.{lineOf}
 use Rattle.lines.specs.Sheet.{allowance, staffOf, replyTo, sheetOf}
-use Rattle.printed.specs.Cut.{linesOf}
+use Rattle.text.specs.Cut.{linesOf}
 use Rattle.printed.specs.Words.{PolicyOf, ReplyTo}
 use Rattle.printed.specs.Laws.Lines.{line-text}
 use Rattle.printed.specs.Laws.Sheets.{lineAt, sheet-line}

@@ -10,12 +10,12 @@ use Rattle.roster.specs.Limits.{rowLimit}
 use Rattle.roster.specs.declared.Verdict.{Verdict}
 use Rattle.roster.specs.declared.Verdict.the-variants.{Yes, No, Undecided, Crews, None, Refused}
 use Rattle.roster.specs.declared.Reply.{Reply}
-use Rattle.lines.specs.Text.{space, newline, comma, slash, dash, decimal, marked, joined}
-use Rattle.lines.specs.Lines.{bad, verdictWord, names, setText, filled, setsText, lineOf, badLine}
-use Rattle.printed.specs.Cut.{_␣_, Lacks}
-use Rattle.printed.specs.Laws.Every.{every-map}
-use Rattle.printed.specs.Laws.Marks.{parted, lacks-word, over, lacks-over, joined-lacks}
-use Rattle.printed.specs.Laws.Numbers.{NoDigit, decimal-lacks, decimal-same}
+use Rattle.text.specs.Text.{quoted, space, newline, comma, slash, dash, decimal, marked, joined}
+use Rattle.lines.specs.Lines.{verdictWord, names, setText, filled, setsText, lineOf, badLine}
+use Rattle.text.specs.Cut.{_␣_, Lacks}
+use Rattle.text.specs.Laws.Every.{every-map}
+use Rattle.text.specs.Laws.Marks.{parted, lacks-word, over, lacks-over, joined-lacks}
+use Rattle.text.specs.Laws.Numbers.{NoDigit, decimal-lacks, decimal-same}
 
 pub never : {A : Type 0} → _≡_ {A = ℕ} 0 1 → A
 never e = absurd (omega arith)
@@ -25,7 +25,7 @@ abbrev pub lineText : List ℕ → ℕ → Reply → List ℕ
 lineText staff i r = decimal i ␣ verdictWord (r .verdict) ␣ decimal (r .units) ␣ setsText staff r (r .verdict)
 
 abbrev pub badText : ℕ → ℕ → List ℕ
-badText number place = bad ␣ decimal number ␣ decimal place
+badText number place = quoted "bad" ␣ decimal number ␣ decimal place
 
 pub line-text : (staff : List ℕ) (i : ℕ) (r : Reply) → lineOf staff i r ≡ lineText staff i r ++ (newline ∷ [])
 unfolding lineOf joined marked
@@ -79,9 +79,9 @@ module _ (mark : ℕ) (low : mark ≤ space) where
   sets-blank staff r None = dash-blank
   sets-blank staff r (Refused refusal) = dash-blank
 
-  bad-blank : Lacks mark bad
+  bad-blank : Lacks mark (quoted "bad")
   unfolding over
-  bad-blank = lacks-over space mark bad low refl
+  bad-blank = lacks-over space mark (quoted "bad") low refl
 
 -- ---- a line has no newline in it
 
@@ -103,9 +103,9 @@ bad-one number place = field (bad-blank newline low) (field (number-blank newlin
 -- ---- what stands before a space can be read back
 
 -- no number is written `bad`
-pub not-bad : (i : ℕ) (x y : List ℕ) → decimal i ␣ x ≡ bad ␣ y → ⊥
+pub not-bad : (i : ℕ) (x y : List ℕ) → decimal i ␣ x ≡ quoted "bad" ␣ y → ⊥
 not-bad i x y e =
-    let same = parted space (decimal i) bad x y (number-blank space (omega arith) i) (bad-blank space (omega arith)) e .0 in
+    let same = parted space (decimal i) (quoted "bad") x y (number-blank space (omega arith) i) (bad-blank space (omega arith)) e .0 in
     decimal-lacks 98 i (λ d l q. omega arith) (subst (List·Memᴰ 98) (sym same) (List·Memᴰ·head refl))
 
 pub number-parted : (m n : ℕ) (x y : List ℕ) → decimal m ␣ x ≡ decimal n ␣ y → (m ≡ n) × (x ≡ y)
@@ -117,7 +117,7 @@ number-parted m n x y e =
 pub bad-parted : (m n at to : ℕ) → badText m at ≡ badText n to → (m ≡ n) × (at ≡ to)
 bad-parted m n at to e =
     let blank = bad-blank space (omega arith) in
-    let h = number-parted m n (decimal at) (decimal to) (parted space bad bad _ _ blank blank e .1) in
+    let h = number-parted m n (decimal at) (decimal to) (parted space (quoted "bad") (quoted "bad") _ _ blank blank e .1) in
     (h .0, decimal-same at to (h .1))
 
 -- the three verdicts that a policy's line can have

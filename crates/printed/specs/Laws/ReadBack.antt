@@ -9,7 +9,7 @@ use Rattle.roster.specs.declared.Verdict.{Verdict}
 use Rattle.roster.specs.declared.Verdict.the-variants.{Yes, No, Undecided}
 use Rattle.roster.specs.declared.Reply.{Reply}
 use Rattle.book.specs.Layout.{Contents, LayoutOf}
-use Rattle.lines.specs.Text.{newline}
+use Rattle.text.specs.Text.{newline}
 use Rattle.lines.specs.Lines.{setsText, lineOf}
 use Rattle.lines.specs.Sheet.{staffOf}
 use Rattle.printed.specs.Words.{ReplyOver, namesOf, Different}

@@ -2,7 +2,7 @@
 use mathlib.Core.Path.{_≡_, sym, ap, ap₂, _∙_, subst}
 use mathlib.Core.Option.{some}
 use mathlib.Core.Logic.{_⊎_, inl, inr, _↔_}
-use mathlib.Core.List.{List, [], _∷_, map, List·Memᴰ, List·Memᴰ·head, List·Memᴰ·eq-of-singleton}
+use mathlib.Core.List.{List, map, List·Memᴰ, List·Memᴰ·head, List·Memᴰ·eq-of-singleton}
 use Prim.Native.Nat.{ℕ, _≤_, _<_}
 use native.Mathlib.Omega.{arith}
 use lib.ListN.{length, getD, getElem?, take}
@@ -23,12 +23,12 @@ use Rattle.book.specs.Parts.{contentsOf}
 use Rattle.book.specs.Promises.{Bytes, FirstFault, tableFor}
 use Rattle.book.specs.Laws.Books.{Good, Refused, reply, good-layout}
 use Rattle.book.specs.declared.Fault.{Fault}
-use Rattle.lines.specs.Text.{dash, slash, decimal, joined}
-use Rattle.lines.specs.Lines.{bad, yes, no, undecided, verdictWord, setText, filled, setsText}
+use Rattle.text.specs.Text.{quoted, slash, decimal, joined}
+use Rattle.lines.specs.Lines.{verdictWord, setText, filled, setsText}
 use Rattle.lines.specs.Sheet.{allowance, staffOf, replyTo, sheetOf}
-use Rattle.printed.specs.Cut.{_␣_, linesOf, HasLine}
+use Rattle.text.specs.Cut.{_␣_, linesOf, HasLine}
 use Rattle.printed.specs.Words.{PolicyOf, needOf, firstCrews, Prints, namesOf}
-use Rattle.printed.specs.Laws.Every.{nth-in, every-at, map-ext}
+use Rattle.text.specs.Laws.Every.{nth-in, every-at, map-ext}
 use Rattle.printed.specs.Laws.Lines.{never, badText, not-bad, bad-parted, number-parted, Worded, says-yes, says-no, says-undecided, word-parted}
 use Rattle.printed.specs.Laws.Asked.{task-wide, policy-admitted, policy-reply, policy-tells}
 use Rattle.printed.specs.Laws.Names.{set-names}
@@ -59,7 +59,7 @@ line-policy book bytes i rest m = go (reply book)
 
 -- `bad n at` is printed exactly if the book's first fault has the number n, and this place
 pub bad-printed : (book : List ℕ) → Bytes book → (number place : ℕ)
-    → HasLine (sheetOf book) (bad ␣ decimal number ␣ decimal place) ↔ ((f : Fault) × (faultNumber f ≡ number) × FirstFault book f place)
+    → HasLine (sheetOf book) (quoted "bad" ␣ decimal number ␣ decimal place) ↔ ((f : Fault) × (faultNumber f ≡ number) × FirstFault book f place)
 bad-printed book bytes number place = (λ m. go m (reply book), back)
   where
     go : HasLine (sheetOf book) (badText number place) → Good book ⊎ Refused book → (f : Fault) × (faultNumber f ≡ number) × FirstFault book f place
@@ -122,14 +122,14 @@ module _ (book : List ℕ) (i : ℕ) (v : Contents) (p : Policy) (o : PolicyOf b
       here = nth-in (linesOf (sheetOf book)) i (lineAt book i p) (sheet-line book i v p o)
 
   -- "undecided, exactly if allowance < need"
-  pub undecided-printed : Prints book i undecided ↔ (allowance < needOf v p)
+  pub undecided-printed : Prints book i (quoted "undecided") ↔ (allowance < needOf v p)
   unfolding verdictWord
   undecided-printed =
       let said = word-printed Undecided says-undecided in
       (λ x. tells .undecided .0 (said .0 x) .1, λ l. said .1 (tells .undecided .1 (admits, l)))
 
   -- else yes exactly if each absence of at most s leaves a crew list
-  pub yes-printed : Prints book i yes
+  pub yes-printed : Prints book i (quoted "yes")
       ↔ ((needOf v p ≤ allowance)
       × ((A : ℕ) → Absence (tableFor v) (p .away) A → (crews : List ℕ) × CrewList (tableFor v) (p .task) (p .crews) (p .size) A crews))
   unfolding verdictWord
@@ -140,7 +140,7 @@ module _ (book : List ℕ) (i : ℕ) (v : Contents) (p : Policy) (o : PolicyOf b
       )
 
   -- and no exactly if one of them leaves none
-  pub no-printed : Prints book i no
+  pub no-printed : Prints book i (quoted "no")
       ↔ ((needOf v p ≤ allowance) × ((A : ℕ) × Absence (tableFor v) (p .away) A × Blocks (tableFor v) (p .task) (p .crews) (p .size) A))
   unfolding verdictWord
   no-printed =
@@ -168,7 +168,7 @@ module _ (book : List ℕ) (i : ℕ) (v : Contents) (p : Policy) (o : PolicyOf b
       subst (λ (l : List ℕ). CrewList (tableFor v) (p .task) (p .crews) (p .size) 0 (take (p .crews) l)) (list .0) (list .1)
 
   -- the units are the need, and exactly d crews stand between the slashes
-  pub yes-crews : (rest : List ℕ) → HasLine (sheetOf book) (decimal i ␣ yes ␣ rest)
+  pub yes-crews : (rest : List ℕ) → HasLine (sheetOf book) (decimal i ␣ quoted "yes" ␣ rest)
       → (rest ≡ decimal (needOf v p) ␣ joined slash (map (namesOf v) (firstCrews v p)))
       × CrewList (tableFor v) (p .task) (p .crews) (p .size) 0 (firstCrews v p)
   unfolding verdictWord setsText
@@ -181,7 +181,7 @@ module _ (book : List ℕ) (i : ℕ) (v : Contents) (p : Policy) (o : PolicyOf b
       (h .1 ∙ ap₂ (λ (n : ℕ) (l : List (List ℕ)). decimal n ␣ joined slash l) (tells .units (λ c. never (cc)) admits) crews, list)
 
   -- with no the names are those of the first blocker
-  pub no-names : (rest : List ℕ) → HasLine (sheetOf book) (decimal i ␣ no ␣ rest)
+  pub no-names : (rest : List ℕ) → HasLine (sheetOf book) (decimal i ␣ quoted "no" ␣ rest)
       → (A : ℕ) × FirstBlocker (tableFor v) (p .task) (p .away) (p .crews) (p .size) A × (rest ≡ decimal (needOf v p) ␣ namesOf v A)
   unfolding verdictWord setsText
   no-names rest m =
@@ -191,8 +191,8 @@ module _ (book : List ℕ) (i : ℕ) (v : Contents) (p : Policy) (o : PolicyOf b
       (given .blocker, first, h .1 ∙ ap₂ (λ (n : ℕ) (names : List ℕ). decimal n ␣ names) units (set-names v book (o .layout) (given .blocker) (first .rows)))
 
   -- with undecided the units are all that were allowed, and there is no set
-  pub undecided-dash : (rest : List ℕ) → HasLine (sheetOf book) (decimal i ␣ undecided ␣ rest) → rest ≡ decimal allowance ␣ (dash ∷ [])
+  pub undecided-dash : (rest : List ℕ) → HasLine (sheetOf book) (decimal i ␣ quoted "undecided" ␣ rest) → rest ≡ decimal allowance ␣ quoted "-"
   unfolding verdictWord setsText
   undecided-dash rest m =
       let h = word-of Undecided says-undecided rest m in
-      h .1 ∙ ap (λ (n : ℕ). decimal n ␣ (dash ∷ [])) (tells .spent (h .0))
+      h .1 ∙ ap (λ (n : ℕ). decimal n ␣ quoted "-") (tells .spent (h .0))

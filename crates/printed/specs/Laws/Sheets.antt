@@ -17,12 +17,12 @@ use Rattle.book.specs.Laws.Parts.{layout-parts}
 use Rattle.book.specs.declared.Fault.{Fault}
 use Rattle.book.specs.declared.Listed.the-variants as listed
 use Rattle.book.specs.declared.Reading.the-variants as read
-use Rattle.lines.specs.Text.{newline}
+use Rattle.text.specs.Text.{newline}
 use Rattle.lines.specs.Sheet.{staffOf, replyTo, lineBy, linesFrom, sheetBy, sheetOf}
-use Rattle.printed.specs.Cut.{Every, Lacks, linesOf, ended, HasLine}
+use Rattle.text.specs.Cut.{Every, Lacks, linesOf, ended, HasLine}
 use Rattle.printed.specs.Words.{PolicyOf}
-use Rattle.printed.specs.Laws.Every.{every-none, every-cons}
-use Rattle.printed.specs.Laws.Marks.{lines-ended}
+use Rattle.text.specs.Laws.Every.{every-none, every-cons}
+use Rattle.text.specs.Laws.Marks.{lines-ended}
 use Rattle.printed.specs.Laws.Lines.{lineText, badText, line-text, bad-text, line-one, bad-one}
 
 -- the line of a policy of the book
