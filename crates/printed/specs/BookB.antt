@@ -1,9 +1,9 @@
 -- The lines of 01's book B, by running the definitions: so that what Printed.antt says of a line is said of lines that there are.
 use mathlib.Core.Path.{_≡_, ap}
 use mathlib.Core.List.{[], _∷_}
+use Rattle.book.specs.Cases.{bookB}
 use Rattle.text.specs.Text.{quoted}
 use Rattle.text.specs.Cut.{longer, linesOf}
-use Rattle.book.specs.Cases.{bookB}
 use Rattle.lines.specs.Sheet.{sheetOf}
 use Rattle.lines.specs.BookB.{sheet-b}
 

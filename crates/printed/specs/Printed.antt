@@ -9,11 +9,11 @@ use Rattle.roster.specs.declared.Policy.{Policy}
 use Rattle.book.specs.Layout.{Contents}
 use Rattle.book.specs.Promises.{Bytes, tableFor}
 use Rattle.text.specs.Text.{quoted, decimal}
-use Rattle.lines.specs.Sheet.{allowance, sheetOf}
 use Rattle.text.specs.Cut.{_␣_, HasLine}
+use Rattle.lines.specs.Sheet.{allowance, sheetOf}
 use Rattle.printed.specs.Words.{PolicyOf, needOf, namesOf}
 use Rattle.printed.specs.Laws.Lines.{number-parted}
-use Rattle.printed.specs.Laws.Said.{line-policy, yes-printed, no-names, undecided-printed}
+use Rattle.printed.specs.Laws.Said.{line-policy, yes-exactly, no-names, undecided-exactly}
 
 module _ (book : List ℕ) (bytes : Bytes book) (i : ℕ) where
   -- `i yes ..`: whoever is away, as long as they are at most s, there are still d separate crews of at most t, each holding every permission of the
@@ -23,7 +23,7 @@ module _ (book : List ℕ) (bytes : Bytes book) (i : ℕ) where
       × ((A : ℕ) → Absence (tableFor v) (p .away) A → (crews : List ℕ) × CrewList (tableFor v) (p .task) (p .crews) (p .size) A crews)
   printed-yes rest line =
       let (v, p, o) = line-policy book bytes i _ line in
-      (v, p, o, yes-printed book i v p o .0 (rest, line) .1)
+      (v, p, o, yes-exactly book i v p o .0 (rest, line) .1)
 
   -- `i no u NAMES`: with exactly these people away, who are at most s, there are no such crews; and they are the first such absence. NAMES are their
   -- staff numbers in row order, joined by commas; `-` where it takes nobody to be away.
@@ -41,4 +41,4 @@ module _ (book : List ℕ) (bytes : Bytes book) (i : ℕ) where
       → (v : Contents) × (p : Policy) × PolicyOf book i v p × (allowance < needOf v p)
   printed-undecided rest line =
       let (v, p, o) = line-policy book bytes i _ line in
-      (v, p, o, undecided-printed book i v p o .0 (rest, line))
+      (v, p, o, undecided-exactly book i v p o .0 (rest, line))

@@ -15,8 +15,8 @@ use Rattle.absences.specs.Asked.{Admits, needPolicy, PolicyReply}
 use Rattle.book.specs.Layout.{Contents, Row, LayoutOf}
 use Rattle.book.specs.Promises.{tableFor}
 use Rattle.text.specs.Text.{comma, decimal, joined}
-use Rattle.lines.specs.Sheet.{allowance, sheetOf}
 use Rattle.text.specs.Cut.{_␣_, HasLine}
+use Rattle.lines.specs.Sheet.{allowance, sheetOf}
 
 -- ---- a policy of a book
 
@@ -30,8 +30,8 @@ abbrev pub needOf : Contents → Policy → ℕ
 needOf v p = needPolicy skipping (tableFor v) (p .task) (p .away) (p .crews) (p .size)
 
 -- what may be replied to it
-abbrev pub ReplyTo : Contents → Policy → Reply → Type 0
-ReplyTo v p = PolicyReply skipping (tableFor v) (p .task) (p .away) (p .crews) (p .size) allowance
+abbrev pub MayReply : Contents → Policy → Reply → Type 0
+MayReply v p = PolicyReply skipping (tableFor v) (p .task) (p .away) (p .crews) (p .size) allowance
 
 -- "the first list with nobody absent": the d crews that are printed with a yes
 abbrev pub firstCrews : Contents → Policy → List ℕ

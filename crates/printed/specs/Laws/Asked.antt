@@ -20,10 +20,10 @@ use Rattle.book.specs.Layout.{Contents, Each, PolicyFits}
 use Rattle.book.specs.Promises.{tableFor}
 use Rattle.book.specs.Laws.Parts.{layout-parts}
 use Rattle.text.specs.Text.{newline}
+use Rattle.text.specs.Cut.{linesOf}
 use Rattle.lines.specs.Lines.{lineOf}
 use Rattle.lines.specs.Sheet.{allowance, staffOf, replyTo, sheetOf}
-use Rattle.text.specs.Cut.{linesOf}
-use Rattle.printed.specs.Words.{PolicyOf, ReplyTo}
+use Rattle.printed.specs.Words.{PolicyOf, MayReply}
 use Rattle.printed.specs.Laws.Lines.{line-text}
 use Rattle.printed.specs.Laws.Sheets.{lineAt, sheet-line}
 
@@ -48,7 +48,7 @@ module _ (book : List ℕ) (i : ℕ) (v : Contents) (p : Policy) (o : PolicyOf b
   pub policy-admitted : Admits (tableFor v) (p .task) (p .away) (p .crews) (p .size)
   policy-admitted = admitted-with (length (v .rows)) (p .task) (p .away) (p .crews) (p .size) (o .layout .admitted .rows) (fits .sound)
 
-  pub policy-reply : ReplyTo v p (replyTo book p)
+  pub policy-reply : MayReply v p (replyTo book p)
   unfolding replyTo
   policy-reply =
       rw (layout-parts v book (o .layout) .table)
@@ -61,7 +61,7 @@ module _ (book : List ℕ) (i : ℕ) (v : Contents) (p : Policy) (o : PolicyOf b
 pub record PolicyLine (book : List ℕ) (i : ℕ) (v : Contents) (p : Policy) : Type 0 where
   pub reply : Reply
   pub admitted : Admits (tableFor v) (p .task) (p .away) (p .crews) (p .size)
-  pub allowed : ReplyTo v p reply
+  pub allowed : MayReply v p reply
   pub text : List ℕ
   pub line : getElem? (linesOf (sheetOf book)) i ≡ some text
   pub written : text ++ (newline ∷ []) ≡ lineOf (staffOf book) i reply

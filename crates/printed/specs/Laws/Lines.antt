@@ -2,6 +2,7 @@
 use mathlib.Core.Path.{_≡_, refl, sym, ap, subst}
 use mathlib.Core.Logic.{_≢_}
 use mathlib.Core.List.{List, [], _∷_, _++_, map, append-nil, List·Memᴰ, List·Memᴰ·head}
+use Prim.Native.Char.{code}
 use Prim.Native.Nat.{ℕ, _≤_}
 use native.Mathlib.Omega.{arith}
 use lib.ListN.{length, getD}
@@ -11,11 +12,11 @@ use Rattle.roster.specs.declared.Verdict.{Verdict}
 use Rattle.roster.specs.declared.Verdict.the-variants.{Yes, No, Undecided, Crews, None, Refused}
 use Rattle.roster.specs.declared.Reply.{Reply}
 use Rattle.text.specs.Text.{quoted, space, newline, comma, slash, dash, decimal, marked, joined}
-use Rattle.lines.specs.Lines.{verdictWord, names, setText, filled, setsText, lineOf, badLine}
 use Rattle.text.specs.Cut.{_␣_, Lacks}
 use Rattle.text.specs.Laws.Every.{every-map}
 use Rattle.text.specs.Laws.Marks.{parted, lacks-word, over, lacks-over, joined-lacks}
 use Rattle.text.specs.Laws.Numbers.{NoDigit, decimal-lacks, decimal-same}
+use Rattle.lines.specs.Lines.{verdictWord, names, setText, filled, setsText, lineOf, badLine}
 
 pub never : {A : Type 0} → _≡_ {A = ℕ} 0 1 → A
 never e = absurd (omega arith)
@@ -106,7 +107,7 @@ bad-one number place = field (bad-blank newline low) (field (number-blank newlin
 pub not-bad : (i : ℕ) (x y : List ℕ) → decimal i ␣ x ≡ quoted "bad" ␣ y → ⊥
 not-bad i x y e =
     let same = parted space (decimal i) (quoted "bad") x y (number-blank space (omega arith) i) (bad-blank space (omega arith)) e .0 in
-    decimal-lacks 98 i (λ d l q. omega arith) (subst (List·Memᴰ 98) (sym same) (List·Memᴰ·head refl))
+    decimal-lacks (code "b") i (λ d l q. omega arith) (subst (List·Memᴰ (code "b")) (sym same) (List·Memᴰ·head refl))
 
 pub number-parted : (m n : ℕ) (x y : List ℕ) → decimal m ␣ x ≡ decimal n ␣ y → (m ≡ n) × (x ≡ y)
 number-parted m n x y e =

@@ -16,11 +16,11 @@ use Rattle.book.specs.Parts.{startsIn, staffAt}
 use Rattle.book.specs.Promises.{staffBy}
 use Rattle.book.specs.Laws.Parts.{layout-parts}
 use Rattle.text.specs.Text.{comma, decimal, joined}
+use Rattle.text.specs.Cut.{Every}
+use Rattle.text.specs.Laws.Every.{every-first, every-rest}
 use Rattle.lines.specs.Lines.{names, setText}
 use Rattle.lines.specs.Sheet.{staffOr0, staffOf}
-use Rattle.text.specs.Cut.{Every}
 use Rattle.printed.specs.Words.{rowsAt, namesOf, Different}
-use Rattle.text.specs.Laws.Every.{every-first, every-rest}
 
 -- an index within a list has something there
 there : {A : Type 0} (l : List A) (i : ℕ) → i < length l → (x : A) × (getElem? l i ≡ some x)

@@ -1,7 +1,7 @@
 -- What a line of the sheet says of its policy: from the text to the reply, and from the reply to the meaning. Assumes nothing.
 use mathlib.Core.Path.{_≡_, sym, ap, ap₂, _∙_, subst}
 use mathlib.Core.Option.{some}
-use mathlib.Core.Logic.{_⊎_, inl, inr, _↔_}
+use mathlib.Core.Logic.{_↔_, ⊎-elim}
 use mathlib.Core.List.{List, map, List·Memᴰ, List·Memᴰ·head, List·Memᴰ·eq-of-singleton}
 use Prim.Native.Nat.{ℕ, _≤_, _<_}
 use native.Mathlib.Omega.{arith}
@@ -16,25 +16,22 @@ use Rattle.absences.specs.Tried.{skipping}
 use Rattle.absences.specs.Asked.{Admits}
 use Rattle.absences.specs.Laws.Decided.{admitted-fair}
 use Rattle.absences.specs.Laws.Demands.{Tells}
-use Rattle.book.specs.Layout.{Contents}
+use Rattle.book.specs.Layout.{Contents, LayoutOf}
 use Rattle.book.specs.Faults.{faultNumber}
-use Rattle.book.specs.Reading.{startsOf}
-use Rattle.book.specs.Parts.{contentsOf}
 use Rattle.book.specs.Promises.{Bytes, FirstFault, tableFor}
-use Rattle.book.specs.Laws.Books.{Good, Refused, reply, good-layout}
 use Rattle.book.specs.declared.Fault.{Fault}
 use Rattle.text.specs.Text.{quoted, slash, decimal, joined}
+use Rattle.text.specs.Cut.{_␣_, linesOf, HasLine}
+use Rattle.text.specs.Laws.Every.{nth-in, every-at, map-ext}
 use Rattle.lines.specs.Lines.{verdictWord, setText, filled, setsText}
 use Rattle.lines.specs.Sheet.{allowance, staffOf, replyTo, sheetOf}
-use Rattle.text.specs.Cut.{_␣_, linesOf, HasLine}
 use Rattle.printed.specs.Words.{PolicyOf, needOf, firstCrews, Prints, namesOf}
-use Rattle.text.specs.Laws.Every.{nth-in, every-at, map-ext}
 use Rattle.printed.specs.Laws.Lines.{never, badText, not-bad, bad-parted, number-parted, Worded, says-yes, says-no, says-undecided, word-parted}
 use Rattle.printed.specs.Laws.Asked.{task-wide, policy-admitted, policy-reply, policy-tells}
 use Rattle.printed.specs.Laws.Names.{set-names}
 use Rattle.printed.specs.Laws.Shown.{Shown, allowed-shown, list-some}
 use Rattle.printed.specs.Laws.Sets.{filled-take}
-use Rattle.printed.specs.Laws.Sheets.{lineAt, sheet-line, sheet-found, refused-lines}
+use Rattle.printed.specs.Laws.Sheets.{lineAt, sheet-line, sheet-found, refused-lines, good-or-bad}
 
 -- what stands behind the index: a word, the units and the sets
 abbrev behindWord : List ℕ → Policy → Verdict → List ℕ
@@ -46,30 +43,32 @@ behindIndex book p = verdictWord (replyTo book p .verdict) ␣ behindWord book p
 -- a line that begins with a number is that of the policy with this index, in the layout of some values
 pub line-policy : (book : List ℕ) → Bytes book → (i : ℕ) (rest : List ℕ) → HasLine (sheetOf book) (decimal i ␣ rest)
     → (v : Contents) × (p : Policy) × PolicyOf book i v p
-line-policy book bytes i rest m = go (reply book)
+line-policy book bytes i rest m = ⊎-elim good refused (good-or-bad book bytes)
   where
-    go : Good book ⊎ Refused book → (v : Contents) × (p : Policy) × PolicyOf book i v p
-    go (inl g) =
-        let v = contentsOf book in
-        let r = sheet-found v book (decimal i ␣ rest) (good-layout book (startsOf book) bytes (g .reply)) m in
-        let same = number-parted i (r .0) rest (behindIndex book (r .1)) (r .3) in
-        (v, r .1, subst (λ (j : ℕ). PolicyOf book j v (r .1)) (sym (same .0)) (r .2))
-    go (inr r) = absurd (not-bad i rest (decimal (faultNumber (r .fault)) ␣ decimal (r .place))
-        (List·Memᴰ·eq-of-singleton (subst (List·Memᴰ (decimal i ␣ rest)) (refused-lines book (r .fault) (r .place) (r .first)) m)))
+    good : (v : Contents) × LayoutOf v book → (v : Contents) × (p : Policy) × PolicyOf book i v p
+    good (v, l) =
+        let (j, p, o, same) = sheet-found v book (decimal i ␣ rest) l m in
+        (v, p, subst (λ (k : ℕ). PolicyOf book k v p) (sym (number-parted i j rest (behindIndex book p) same .0)) o)
+
+    refused : (f : Fault) × (at : ℕ) × FirstFault book f at → (v : Contents) × (p : Policy) × PolicyOf book i v p
+    refused (f, at, h) =
+        absurd (not-bad i rest (decimal (faultNumber f) ␣ decimal at) (List·Memᴰ·eq-of-singleton (subst (List·Memᴰ (decimal i ␣ rest)) (refused-lines book f at h) m)))
 
 -- `bad n at` is printed exactly if the book's first fault has the number n, and this place
-pub bad-printed : (book : List ℕ) → Bytes book → (number place : ℕ)
+pub bad-exactly : (book : List ℕ) → Bytes book → (number place : ℕ)
     → HasLine (sheetOf book) (quoted "bad" ␣ decimal number ␣ decimal place) ↔ ((f : Fault) × (faultNumber f ≡ number) × FirstFault book f place)
-bad-printed book bytes number place = (λ m. go m (reply book), back)
+bad-exactly book bytes number place = (λ m. ⊎-elim (good m) (refused m) (good-or-bad book bytes), back)
   where
-    go : HasLine (sheetOf book) (badText number place) → Good book ⊎ Refused book → (f : Fault) × (faultNumber f ≡ number) × FirstFault book f place
-    go m (inl g) =
-        let r = sheet-found (contentsOf book) book (badText number place) (good-layout book (startsOf book) bytes (g .reply)) m in
-        absurd (not-bad (r .0) (behindIndex book (r .1)) (decimal number ␣ decimal place) (sym (r .3)))
-    go m (inr r) =
-        let same = List·Memᴰ·eq-of-singleton (subst (List·Memᴰ (badText number place)) (refused-lines book (r .fault) (r .place) (r .first)) m) in
-        let h = bad-parted number (faultNumber (r .fault)) place (r .place) same in
-        (r .fault, sym (h .0), subst (FirstFault book (r .fault)) (sym (h .1)) (r .first))
+    good : HasLine (sheetOf book) (badText number place) → (v : Contents) × LayoutOf v book → (f : Fault) × (faultNumber f ≡ number) × FirstFault book f place
+    good m (v, l) =
+        let (j, p, o, same) = sheet-found v book (badText number place) l m in
+        absurd (not-bad j (behindIndex book p) (decimal number ␣ decimal place) (sym same))
+
+    refused : HasLine (sheetOf book) (badText number place) → (f : Fault) × (at : ℕ) × FirstFault book f at → (f : Fault) × (faultNumber f ≡ number) × FirstFault book f place
+    refused m (f, at, h) =
+        let (n, p) = bad-parted number (faultNumber f) place at
+        (List·Memᴰ·eq-of-singleton (subst (List·Memᴰ (badText number place)) (refused-lines book f at h) m)) in
+        (f, sym n, subst (FirstFault book f) (sym p) h)
 
     back : (f : Fault) × (faultNumber f ≡ number) × FirstFault book f place → HasLine (sheetOf book) (badText number place)
     back (f, e, h) =
@@ -122,28 +121,28 @@ module _ (book : List ℕ) (i : ℕ) (v : Contents) (p : Policy) (o : PolicyOf b
       here = nth-in (linesOf (sheetOf book)) i (lineAt book i p) (sheet-line book i v p o)
 
   -- "undecided, exactly if allowance < need"
-  pub undecided-printed : Prints book i (quoted "undecided") ↔ (allowance < needOf v p)
+  pub undecided-exactly : Prints book i (quoted "undecided") ↔ (allowance < needOf v p)
   unfolding verdictWord
-  undecided-printed =
+  undecided-exactly =
       let said = word-printed Undecided says-undecided in
       (λ x. tells .undecided .0 (said .0 x) .1, λ l. said .1 (tells .undecided .1 (admits, l)))
 
   -- else yes exactly if each absence of at most s leaves a crew list
-  pub yes-printed : Prints book i (quoted "yes")
+  pub yes-exactly : Prints book i (quoted "yes")
       ↔ ((needOf v p ≤ allowance)
       × ((A : ℕ) → Absence (tableFor v) (p .away) A → (crews : List ℕ) × CrewList (tableFor v) (p .task) (p .crews) (p .size) A crews))
   unfolding verdictWord
-  yes-printed =
+  yes-exactly =
       let said = word-printed Yes says-yes in (
         λ x. let h = tells .yes .0 (said .0 x) in (h .1, holds-all fair (p .away) (p .size) (h .2)),
         λ h. said .1 (tells .yes .1 (admits, h .0, λ A a b. let c = h .1 A a in b (c .0) (c .1))),
       )
 
   -- and no exactly if one of them leaves none
-  pub no-printed : Prints book i (quoted "no")
+  pub no-exactly : Prints book i (quoted "no")
       ↔ ((needOf v p ≤ allowance) × ((A : ℕ) × Absence (tableFor v) (p .away) A × Blocks (tableFor v) (p .task) (p .crews) (p .size) A))
   unfolding verdictWord
-  no-printed =
+  no-exactly =
       let said = word-printed No says-no in (
         λ x.
             let e = said .0 x in

@@ -13,12 +13,12 @@ use Rattle.sets.specs.Members.{members}
 use Rattle.sets.specs.Laws.Members.{has-of-mem, mem-of-has, members-empty}
 use Rattle.roster.specs.Limits.{rowLimit}
 use Rattle.text.specs.Text.{comma, slash, dash, decimal, joined}
-use Rattle.lines.specs.Lines.{names, setText, filled, crewsText}
 use Rattle.text.specs.Cut.{Every, Lacks}
-use Rattle.printed.specs.Words.{Different}
 use Rattle.text.specs.Laws.Every.{every-none, every-cons, every-map, map-same}
 use Rattle.text.specs.Laws.Marks.{joined-same}
 use Rattle.text.specs.Laws.Numbers.{decimal-lacks, decimal-no-dash, decimal-same}
+use Rattle.lines.specs.Lines.{names, setText, filled, crewsText}
+use Rattle.printed.specs.Words.{Different}
 use Rattle.printed.specs.Laws.Lines.{set-no-slash}
 
 -- two sets with the same members are one

@@ -1,7 +1,7 @@
 -- The sheet of a book is one line for each of its policies, in order; that of a refused book is the line of its first fault. Assumes nothing.
 use mathlib.Core.Path.{_≡_, refl, sym, ap, ap₂, _∙_, subst}
 use mathlib.Core.Option.{some}
-use mathlib.Core.Logic.{⊎-elim}
+use mathlib.Core.Logic.{_⊎_, inl, inr, ⊎-elim}
 use mathlib.Core.List.{List, [], _∷_, _++_, append-assoc, List·Memᴰ, List·Memᴰ·cases-cons, List·Memᴰ·not-nil}
 use Prim.Native.Nat.{ℕ, zero, suc, _+_}
 use native.Mathlib.Omega.{arith}
@@ -12,17 +12,16 @@ use Rattle.book.specs.Faults.{faultNumber}
 use Rattle.book.specs.Reading.{startsOf}
 use Rattle.book.specs.Parts.{contentsOf, policyAt}
 use Rattle.book.specs.Promises.{Bytes, FirstFault, policyBy}
-use Rattle.book.specs.Laws.Books.{layout-good, first-fault-refused, Good, Refused, reply, good-layout}
+use Rattle.book.specs.Laws.Books.{layout-good, first-fault-refused, reply, good-layout}
 use Rattle.book.specs.Laws.Parts.{layout-parts}
 use Rattle.book.specs.declared.Fault.{Fault}
 use Rattle.book.specs.declared.Listed.the-variants as listed
-use Rattle.book.specs.declared.Reading.the-variants as read
 use Rattle.text.specs.Text.{newline}
-use Rattle.lines.specs.Sheet.{staffOf, replyTo, lineBy, linesFrom, sheetBy, sheetOf}
 use Rattle.text.specs.Cut.{Every, Lacks, linesOf, ended, HasLine}
-use Rattle.printed.specs.Words.{PolicyOf}
 use Rattle.text.specs.Laws.Every.{every-none, every-cons}
 use Rattle.text.specs.Laws.Marks.{lines-ended}
+use Rattle.lines.specs.Sheet.{staffOf, replyTo, lineBy, linesFrom, sheetBy, sheetOf}
+use Rattle.printed.specs.Words.{PolicyOf}
 use Rattle.printed.specs.Laws.Lines.{lineText, badText, line-text, bad-text, line-one, bad-one}
 
 -- the line of a policy of the book
@@ -116,15 +115,15 @@ refused-lines book f at h =
 
 -- ---- every sheet
 
+-- a string of bytes is the layout of some values, or it has a first fault
+pub good-or-bad : (book : List ℕ) → Bytes book → ((v : Contents) × LayoutOf v book) ⊎ ((f : Fault) × (at : ℕ) × FirstFault book f at)
+good-or-bad book bytes =
+    ⊎-elim (λ g. inl (contentsOf book, good-layout book (startsOf book) bytes (g .reply))) (λ r. inr (r .fault, r .place, r .first)) (reply book)
+
 -- the lines of a sheet, each ended by its newline, are the sheet
 pub sheet-ended : (book : List ℕ) → Bytes book → sheetOf book ≡ ended (linesOf (sheetOf book))
-sheet-ended book bytes = ⊎-elim good refused (reply book)
-  where
-    good : Good book → sheetOf book ≡ ended (linesOf (sheetOf book))
-    good g =
-        let v = contentsOf book in
-        let l = good-layout book (startsOf book) bytes (g .reply) in
-        sheet-whole v book l ∙ ap ended (sym (sheet-lines v book l))
-
-    refused : Refused book → sheetOf book ≡ ended (linesOf (sheetOf book))
-    refused r = refused-whole book (r .fault) (r .place) (r .first) ∙ ap ended (sym (refused-lines book (r .fault) (r .place) (r .first)))
+sheet-ended book bytes =
+    ⊎-elim
+    (λ (v, l). sheet-whole v book l ∙ ap ended (sym (sheet-lines v book l)))
+    (λ (f, at, h). refused-whole book f at h ∙ ap ended (sym (refused-lines book f at h)))
+    (good-or-bad book bytes)
