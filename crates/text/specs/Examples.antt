@@ -1,7 +1,8 @@
--- How numbers and lists are written, and what an append leaves, by running the definitions. One fact: a change of a definition that can be seen in
+-- How numbers and lists are written, how a text is cut, and what an append leaves, by running the definitions. One fact: a change of a definition that can be seen in
 -- a text is seen here.
 use mathlib.Core.Path.{_≡_, refl}
 use mathlib.Core.List.{[], _∷_}
+use Rattle.text.specs.Cut.{_␣_, longer, linesOf, ended}
 use Rattle.text.specs.Text.{quoted, space, newline, comma, slash, dash, decimalIn, decimal, marked, joined, Appended}
 
 pub text-examples :
@@ -21,13 +22,24 @@ pub text-examples :
     × (joined slash (quoted "a" ∷ quoted "bc" ∷ quoted "d" ∷ []) ≡ quoted "a/bc/d")
     × (joined slash (quoted "a" ∷ []) ≡ quoted "a")
     × (joined slash [] ≡ quoted "-")
+    -- lines: none, one, an empty one between, the last without its newline
+    × (linesOf [] ≡ [])
+    × (linesOf (quoted "a b\n") ≡ quoted "a b" ∷ [])
+    × (linesOf (quoted "a\n\nbc") ≡ quoted "a" ∷ [] ∷ quoted "bc" ∷ [])
+    × (ended (quoted "a" ∷ [] ∷ []) ≡ quoted "a\n\n")
+    × (quoted "a" ␣ quoted "bc" ␣ quoted "d" ≡ quoted "a bc d")
     -- where all fits, up to the last byte; where a part of it fits; at the end and past it
     × Appended (quoted "ab") (quoted ".....") 3 (quoted "...ab") 5
     × Appended (quoted "abc") (quoted ".....") 3 (quoted "...ab") 5
     × Appended (quoted "abc") (quoted ".....") 5 (quoted ".....") 5
     × Appended (quoted "abc") (quoted ".....") 7 (quoted ".....") 7
-unfolding decimalIn decimal marked joined
+unfolding decimalIn decimal marked joined longer linesOf ended
 text-examples = (
+  refl,
+  refl,
+  refl,
+  refl,
+  refl,
   refl,
   refl,
   refl,

@@ -1,2 +1,5 @@
 pub mod Decimal
 pub mod Appends
+pub mod Every
+pub mod Marks
+pub mod Numbers

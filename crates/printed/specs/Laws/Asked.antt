@@ -1,0 +1,78 @@
+-- A policy of a good book is an admitted question, and what is printed of it is the reply that the search is allowed to give. Assumes nothing.
+use mathlib.Core.Path.{_≡_, sym}
+use mathlib.Core.Option.{some}
+use mathlib.Core.List.{List, [], _∷_, _++_}
+use Prim.Native.Nat.{ℕ, zero, suc, _^_, _≤_, _<_}
+use native.Mathlib.Nat.{lt-of-lt-of-le}
+use native.Mathlib.Omega.{arith}
+use lib.ListN.{length, getElem?}
+use lib.Pow.{pow-mono}
+use borrow.Author.Tests.{le-ltb}
+use Rattle.roster.specs.Limits.{rowLimit}
+use Rattle.roster.specs.Refusals.{policyRuling}
+use Rattle.roster.specs.declared.Policy.{Policy}
+use Rattle.roster.specs.declared.Reply.{Reply}
+use Rattle.roster.specs.declared.Ruling.the-variants.{Admitted}
+use Rattle.absences.specs.Tried.{skipping}
+use Rattle.absences.specs.Asked.{Admits}
+use Rattle.absences.specs.Laws.Demands.{Tells, policy-allowed, policy-exactly}
+use Rattle.book.specs.Layout.{Contents, Each, PolicyFits}
+use Rattle.book.specs.Promises.{tableFor}
+use Rattle.book.specs.Laws.Parts.{layout-parts}
+use Rattle.text.specs.Text.{newline}
+use Rattle.text.specs.Cut.{linesOf}
+use Rattle.lines.specs.Lines.{lineOf}
+use Rattle.lines.specs.Sheet.{allowance, staffOf, replyTo, sheetOf}
+use Rattle.printed.specs.Words.{PolicyOf, MayReply}
+use Rattle.printed.specs.Laws.Lines.{line-text}
+use Rattle.printed.specs.Laws.Sheets.{lineAt, sheet-line}
+
+each-nth : {A : Type 0} (P : A → Type 0) (l : List A) (i : ℕ) (x : A) → Each P l → getElem? l i ≡ some x → P x
+unfolding Each
+each-nth P [] i x h e = let z : _≡_ {A = ℕ} 0 1 = cc in absurd (omega arith)
+each-nth {A} P (y ∷ l) zero x h e = let same : y ≡ x = cc in rw same at (h .0)
+each-nth P (y ∷ l) (suc i) x h e = each-nth P l i x (h .1) e
+
+-- what is not refused without a table is not refused with one of few enough rows
+admitted-with : (n P s d t : ℕ) → n ≤ rowLimit → policyRuling 0 P s d t ≡ Admitted → policyRuling n P s d t ≡ Admitted
+unfolding policyRuling
+admitted-with n P s d t l e = rw (le-ltb rowLimit n l) e
+
+module _ (book : List ℕ) (i : ℕ) (v : Contents) (p : Policy) (o : PolicyOf book i v p) where
+  fits : PolicyFits (length (v .codes)) p
+  fits = each-nth (PolicyFits (length (v .codes))) (v .policies) i p (o .layout .admitted .sound) (o .policy)
+
+  pub task-wide : p .task < 2 ^ 32
+  task-wide = lt-of-lt-of-le (fits .task) (pow-mono (o .layout .admitted .permissions))
+
+  pub policy-admitted : Admits (tableFor v) (p .task) (p .away) (p .crews) (p .size)
+  policy-admitted = admitted-with (length (v .rows)) (p .task) (p .away) (p .crews) (p .size) (o .layout .admitted .rows) (fits .sound)
+
+  pub policy-reply : MayReply v p (replyTo book p)
+  unfolding replyTo
+  policy-reply =
+      rw (layout-parts v book (o .layout) .table)
+      (policy-allowed skipping (tableFor v) (p .task) (p .away) (p .crews) (p .size) task-wide allowance)
+
+  pub policy-tells : Tells skipping (tableFor v) (p .task) (p .away) (p .crews) (p .size) allowance (replyTo book p)
+  policy-tells = policy-exactly skipping (tableFor v) (p .task) (p .away) (p .crews) (p .size) task-wide allowance (replyTo book p) policy-reply
+
+-- what line i of a sheet is
+pub record PolicyLine (book : List ℕ) (i : ℕ) (v : Contents) (p : Policy) : Type 0 where
+  pub reply : Reply
+  pub admitted : Admits (tableFor v) (p .task) (p .away) (p .crews) (p .size)
+  pub allowed : MayReply v p reply
+  pub text : List ℕ
+  pub line : getElem? (linesOf (sheetOf book)) i ≡ some text
+  pub written : text ++ (newline ∷ []) ≡ lineOf (staffOf book) i reply
+
+-- it is the line of a reply that may be given to policy i, whose question is admitted
+pub policy-line : (book : List ℕ) (i : ℕ) (v : Contents) (p : Policy) → PolicyOf book i v p → PolicyLine book i v p
+policy-line book i v p o = record {
+  reply = replyTo book p;
+  admitted = policy-admitted book i v p o;
+  allowed = policy-reply book i v p o;
+  text = lineAt book i p;
+  line = sheet-line book i v p o;
+  written = sym (line-text (staffOf book) i (replyTo book p));
+}

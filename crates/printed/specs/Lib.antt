@@ -1,0 +1,4 @@
+pub mod Printed
+pub mod Words
+pub mod BookB
+pub mod Laws
