@@ -10,7 +10,8 @@ use Rattle.roster.specs.declared.Verdict.the-variants.{Yes, No, Undecided, Crew
 use Rattle.roster.specs.declared.Reply.{Reply}
 use Rattle.text.specs.Text.{quoted, space, newline, comma, slash, dash, decimal, joined}
 
--- "the verdict": a word each for yes, no and undecided, and none for the others
+-- "the verdict": a word each for yes, no and undecided, and none for the others, which no policy of a good book gets (`allowed-shown` of the crate
+-- printed)
 unfoldable pub verdictWord : Verdict → List ℕ
 verdictWord Yes = quoted "yes"
 verdictWord No = quoted "no"

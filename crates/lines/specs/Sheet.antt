@@ -28,7 +28,7 @@ use Rattle.lines.specs.Lines.{lineOf, badLine}
 abbrev pub allowance : ℕ
 allowance = 1000000
 
--- a row that is not there has no number, and counts as 0; replies name rows of the table only
+-- a row that is not there has no number, and counts as 0; no sheet names one (`set-rows` and `set-names` of the crate printed)
 abbrev pub staffOr0 : Seen → ℕ
 staffOr0 (seen.Row row) = row .staff
 staffOr0 seen.NoSuchRow = 0

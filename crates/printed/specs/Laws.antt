@@ -1,8 +1,12 @@
-pub mod Lines
-pub mod Sets
-pub mod Shown
-pub mod ReadBack
+-- the lines of a sheet, and the policies that they are of
 pub mod Sheets
-pub mod Names
 pub mod Asked
+-- what the word, the crews and the names on a line say
 pub mod Said
+pub mod Names
+-- that a line can be read back
+pub mod ReadBack
+-- what these rest on: the text of a line, the replies that are printed, the sets on it
+pub mod Lines
+pub mod Shown
+pub mod Sets

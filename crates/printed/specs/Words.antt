@@ -30,7 +30,7 @@ pub record PolicyOf (book : List ℕ) (i : ℕ) (v : Contents) (p : Policy) : Ty
 abbrev pub needOf : Contents → Policy → ℕ
 needOf v p = needPolicy skipping (tableFor v) (p .task) (p .away) (p .crews) (p .size)
 
--- what may be replied to it
+-- what may be replied to it, by the search that skips and with the whole allowance
 abbrev pub MayReply : Contents → Policy → Reply → Type 0
 MayReply v p = PolicyReply skipping (tableFor v) (p .task) (p .away) (p .crews) (p .size) allowance
 

@@ -1,2 +1,2 @@
 // What the printed words mean. There is no function here: specs/Printed.antt has the theorems that a "yes", a "no" and an "undecided" on a sheet stand
-// for, and what they rest on stands below it. A crate of its own, so that `lines` does not prove them again for each of its wrong variants.
+// for; what they rest on stands in specs/Laws. A crate of its own, so that `lines` does not prove them again for each of its wrong variants.
