@@ -12,7 +12,8 @@ use Rattle.roster.specs.declared.Table.{Table}
 use Rattle.crews.specs.Named.{firstList}
 use Rattle.absences.specs.Tried.{Way, skipping}
 use Rattle.absences.specs.Asked.{Admits, needPolicy, PolicyReply}
-use Rattle.book.specs.Layout.{Contents, Row, LayoutOf}
+use Rattle.book.specs.declared.Row.{Row}
+use Rattle.book.specs.Layout.{Contents, LayoutOf}
 use Rattle.book.specs.Promises.{tableFor}
 use Rattle.text.specs.Text.{comma, decimal, joined}
 use Rattle.text.specs.Cut.{_␣_, HasLine}

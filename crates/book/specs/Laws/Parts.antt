@@ -38,7 +38,8 @@ policy-from book listed (At at) fits =
     ap (λ (r : Ruling). listedBy (madeBy r p)) (fits p refl .sound)
 policy-from book listed Nothing fits = refl
 
-each-nth : {A : Type 0} (P : A → Type 0) (l : List A) (i : ℕ) (x : A) → Each P l → getElem? l i ≡ some x → P x
+-- what is so of each is so of the one at a place
+pub each-nth : {A : Type 0} (P : A → Type 0) (l : List A) (i : ℕ) (x : A) → Each P l → getElem? l i ≡ some x → P x
 unfolding Each
 each-nth P [] i x h e = let z : _≡_ {A = ℕ} 0 1 = cc in absurd (omega arith)
 each-nth {A} P (y ∷ l) zero x h e = let same : y ≡ x = cc in rw same at (h .0)

@@ -59,7 +59,8 @@ some-parts book bytes = go (reply book)
         record { values = contentsOf book; few = l .admitted .rows; parts = layout-parts (contentsOf book) book l }
     go (inr r) = record { values = nothing; few = omega arith; parts = refused-parts book (r .fault) (r .place) (r .reply) }
 
-there : {A : Type 0} (l : List A) (i : ℕ) → i < length l → (x : A) × (getElem? l i ≡ some x)
+-- a place within a list has something there
+pub there : {A : Type 0} (l : List A) (i : ℕ) → i < length l → (x : A) × (getElem? l i ≡ some x)
 there [] i h = absurd (omega arith)
 there (x ∷ l) zero h = (x, refl)
 there (x ∷ l) (suc i) h = there l i (omega arith)

@@ -2,9 +2,8 @@
 use mathlib.Core.Path.{_≡_, sym}
 use mathlib.Core.Option.{some}
 use mathlib.Core.List.{List, [], _∷_, _++_}
-use Prim.Native.Nat.{ℕ, zero, suc, _^_, _≤_, _<_}
+use Prim.Native.Nat.{ℕ, _^_, _≤_, _<_}
 use native.Mathlib.Nat.{lt-of-lt-of-le}
-use native.Mathlib.Omega.{arith}
 use lib.ListN.{length, getElem?}
 use lib.Pow.{pow-mono}
 use borrow.Author.Tests.{le-ltb}
@@ -16,9 +15,9 @@ use Rattle.roster.specs.declared.Ruling.the-variants.{Admitted}
 use Rattle.absences.specs.Tried.{skipping}
 use Rattle.absences.specs.Asked.{Admits}
 use Rattle.absences.specs.Laws.Demands.{Tells, policy-allowed, policy-exactly}
-use Rattle.book.specs.Layout.{Contents, Each, PolicyFits}
+use Rattle.book.specs.Layout.{Contents, PolicyFits}
 use Rattle.book.specs.Promises.{tableFor}
-use Rattle.book.specs.Laws.Parts.{layout-parts}
+use Rattle.book.specs.Laws.Parts.{each-nth, layout-parts}
 use Rattle.text.specs.Text.{newline}
 use Rattle.text.specs.Cut.{linesOf}
 use Rattle.lines.specs.Lines.{lineOf}
@@ -26,12 +25,6 @@ use Rattle.lines.specs.Sheet.{allowance, staffOf, replyTo, sheetOf}
 use Rattle.printed.specs.Words.{PolicyOf, MayReply}
 use Rattle.printed.specs.Laws.Lines.{line-text}
 use Rattle.printed.specs.Laws.Sheets.{lineAt, sheet-line}
-
-each-nth : {A : Type 0} (P : A → Type 0) (l : List A) (i : ℕ) (x : A) → Each P l → getElem? l i ≡ some x → P x
-unfolding Each
-each-nth P [] i x h e = let z : _≡_ {A = ℕ} 0 1 = cc in absurd (omega arith)
-each-nth {A} P (y ∷ l) zero x h e = let same : y ≡ x = cc in rw same at (h .0)
-each-nth P (y ∷ l) (suc i) x h e = each-nth P l i x (h .1) e
 
 -- what is not refused without a table is not refused with one of few enough rows
 admitted-with : (n P s d t : ℕ) → n ≤ rowLimit → policyRuling 0 P s d t ≡ Admitted → policyRuling n P s d t ≡ Admitted

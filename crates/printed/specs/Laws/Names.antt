@@ -11,10 +11,12 @@ use Rattle.sets.specs.Members.{members}
 use Rattle.sets.specs.Laws.Members.{has-of-mem}
 use Rattle.sets.specs.Laws.Arrays.{at-tabulate}
 use Rattle.roster.specs.Limits.{rowLimit}
-use Rattle.book.specs.Layout.{Contents, Row, Below, Ascends, LayoutOf}
-use Rattle.book.specs.Parts.{startsIn, staffAt}
-use Rattle.book.specs.Promises.{staffBy}
+use Rattle.book.specs.declared.Row.{Row}
+use Rattle.book.specs.Layout.{Contents, Below, Ascends, LayoutOf}
+use Rattle.book.specs.Parts.{rowByNumber}
+use Rattle.book.specs.Promises.{rowBy}
 use Rattle.book.specs.Laws.Parts.{layout-parts}
+use Rattle.book.specs.Laws.View.{there}
 use Rattle.text.specs.Text.{comma, decimal, joined}
 use Rattle.text.specs.Cut.{Every}
 use Rattle.text.specs.Laws.Every.{every-first, every-rest}
@@ -22,13 +24,7 @@ use Rattle.lines.specs.Lines.{names, setText}
 use Rattle.lines.specs.Sheet.{staffOr0, staffOf}
 use Rattle.printed.specs.Words.{rowsAt, namesOf, Different}
 
--- an index within a list has something there
-there : {A : Type 0} (l : List A) (i : ℕ) → i < length l → (x : A) × (getElem? l i ≡ some x)
-there [] i h = absurd (omega arith)
-there (x ∷ l) zero h = (x, refl)
-there (x ∷ l) (suc i) h = there l i (omega arith)
-
--- and one with something there is within it
+-- a place with something there is within the list
 within : {A : Type 0} (l : List A) (i : ℕ) (x : A) → getElem? l i ≡ some x → i < length l
 within [] i x e = let z : _≡_ {A = ℕ} 0 1 = cc in absurd (omega arith)
 within (y ∷ l) zero x e = omega arith
@@ -62,8 +58,8 @@ module _ (v : Contents) (book : List ℕ) (l : LayoutOf v book) where
   pub staff-of-row : (u : ℕ) (row : Row) → getElem? (v .rows) u ≡ some row → getD (staffOf book) u 0 ≡ row .staff
   unfolding staffOf
   staff-of-row u row e =
-      at-tabulate rowLimit (λ w. staffOr0 (staffAt book (startsIn book .rows) w)) u (omega (arith, within (v .rows) u row e, l .admitted .rows))
-      ∙ ap staffOr0 (layout-parts v book l .staff u ∙ ap staffBy e)
+      at-tabulate rowLimit (λ w. staffOr0 (rowByNumber book w)) u (omega (arith, within (v .rows) u row e, l .admitted .rows))
+      ∙ ap staffOr0 (layout-parts v book l .row u ∙ ap rowBy e)
 
   rows-named : (us : List ℕ) → Every (λ u. u < length (v .rows)) us
       → map (λ u. decimal (getD (staffOf book) u 0)) us ≡ map (λ row. decimal (row .staff)) (rowsAt (v .rows) us)

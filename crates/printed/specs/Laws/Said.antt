@@ -11,11 +11,11 @@ use Rattle.roster.specs.declared.Policy.{Policy}
 use Rattle.roster.specs.declared.Reply.{Reply}
 use Rattle.roster.specs.declared.Verdict.{Verdict}
 use Rattle.roster.specs.declared.Verdict.the-variants.{Yes, No, Undecided}
-use Rattle.crews.specs.Laws.Exact.{Fair, holds-all}
+use Rattle.crews.specs.Laws.Exact.{Fair}
 use Rattle.absences.specs.Tried.{skipping}
 use Rattle.absences.specs.Asked.{Admits}
 use Rattle.absences.specs.Laws.Decided.{admitted-fair}
-use Rattle.absences.specs.Laws.Demands.{Tells}
+use Rattle.absences.specs.Laws.Demands.{Tells, policy-yes, policy-no}
 use Rattle.book.specs.Layout.{Contents, LayoutOf}
 use Rattle.book.specs.Faults.{faultNumber}
 use Rattle.book.specs.Promises.{Bytes, FirstFault, tableFor}
@@ -133,23 +133,18 @@ module _ (book : List ℕ) (i : ℕ) (v : Contents) (p : Policy) (o : PolicyOf b
       × ((A : ℕ) → Absence (tableFor v) (p .away) A → (crews : List ℕ) × CrewList (tableFor v) (p .task) (p .crews) (p .size) A crews))
   unfolding verdictWord
   yes-exactly =
-      let said = word-printed Yes says-yes in (
-        λ x. let h = tells .yes .0 (said .0 x) in (h .1, holds-all fair (p .away) (p .size) (h .2)),
-        λ h. said .1 (tells .yes .1 (admits, h .0, λ A a b. let c = h .1 A a in b (c .0) (c .1))),
-      )
+      let said = word-printed Yes says-yes in
+      let exactly = policy-yes skipping (tableFor v) (p .task) (p .away) (p .crews) (p .size) (task-wide book i v p o) allowance given (policy-reply book i v p o) in
+      (λ x. let h = exactly .0 (said .0 x) in (h .1, h .2), λ h. said .1 (exactly .1 (admits, h .0, h .1)))
 
   -- and no exactly if one of them leaves none
   pub no-exactly : Prints book i (quoted "no")
       ↔ ((needOf v p ≤ allowance) × ((A : ℕ) × Absence (tableFor v) (p .away) A × Blocks (tableFor v) (p .task) (p .crews) (p .size) A))
   unfolding verdictWord
   no-exactly =
-      let said = word-printed No says-no in (
-        λ x.
-            let e = said .0 x in
-            let b = tells .blocker e in
-            (tells .no .0 e .1, (given .blocker, record { rows = b .rows; few = b .is .0 }, b .is .1)),
-        λ h. said .1 (tells .no .1 (admits, h .0, λ all. all (h .1 .0) (h .1 .1) (h .1 .2))),
-      )
+      let said = word-printed No says-no in
+      let exactly = policy-no skipping (tableFor v) (p .task) (p .away) (p .crews) (p .size) (task-wide book i v p o) allowance given (policy-reply book i v p o) in
+      (λ x. let h = exactly .0 (said .0 x) in (h .1, h .2), λ h. said .1 (exactly .1 (admits, h .0, h .1)))
 
   -- ---- what stands behind the word
 
