@@ -1,7 +1,7 @@
 -- Each policy question falls under one row of the table "What comes back", by whichever search. The idea: `tried-sound`, `tried-complete` and
 -- `tried-ascending` say what the list is, exactness of the filling that its test is `Blocks`, and the swap (`first-tried`, `first-blocker-worth`,
 -- `none-worth-none`) that leaving out what is not worth trying loses neither the first blocker nor a "yes". Assumes nothing.
-use mathlib.Core.Path.{_≡_, refl, subst}
+use mathlib.Core.Path.{_≡_, refl, ap₂, subst}
 use mathlib.Core.Logic.{_⊎_, inl, inr}
 use mathlib.Core.Bool.{Bool, true, false}
 use Prim.Native.Nat.{ℕ, _^_, _≤_, _<_}
@@ -87,10 +87,10 @@ module _ (way : Way) (table : Table) (P s d t : ℕ) (fair : Fair table P d) whe
 module _ (w : Found) (allowance : ℕ) where
   -- an allowance that is just the need is enough
   pub verdict-within : (b : Bool) → w .need ≤ allowance → w .blocked ≡ b → verdictOf w allowance ≡ judged true b
-  verdict-within b l e = let enough = le-leb (w .need) allowance l in cc
+  verdict-within b l e = ap₂ judged (le-leb (w .need) allowance l) e
 
   pub verdict-late : allowance < w .need → verdictOf w allowance ≡ judged false (w .blocked)
-  verdict-late l = let short = lt-leb (w .need) allowance l in cc
+  verdict-late l = ap₂ judged (lt-leb (w .need) allowance l) refl
 
 -- ---- which row of the table "What comes back" a question falls under
 
