@@ -84,7 +84,7 @@ nothing = record { codes = []; rows = []; policies = [] }
 
 -- ---- the view
 
--- what may be answered to one who wants a view of these bytes: the bytes that were lent, and where their sections are taken to start
+-- what may be answered as the view of these bytes: the bytes as they were lent, and where their sections are taken to start
 pub record ViewOf (bytes : RefT (List ℕ)) (view : Book) : Type 0 where
   pub lent : view .bytes ≡ bytes
   pub starts : view .starts ≡ startsIn (now bytes)

@@ -41,37 +41,6 @@ pub enum Fault {
     Excess,
 }
 
-// The sections, in their order.
-enum Section {
-    Permissions,
-    Rows,
-    Policies,
-}
-
-// What looking at one count or one entry finds.
-pub enum Look {
-    Sound,
-    Faulty(Fault),
-}
-
-// Where the entry before stands, if there is one.
-pub enum Before {
-    Nothing,
-    Entry(usize),
-}
-
-// Where the reader stands in a section.
-struct Cursor {
-    pub before: Before,
-    pub at: usize,
-}
-
-// What reading a section comes to: the place past it, or its first fault with its place.
-enum Step {
-    Next(usize),
-    Refused(Fault, usize),
-}
-
 // Where the sections start, each with its count.
 pub struct Starts {
     pub permissions: usize,
@@ -83,12 +52,6 @@ pub struct Starts {
 pub enum Reading {
     Good(Starts),
     Refused(Fault, usize),
-}
-
-// Where an entry stands.
-pub enum Place {
-    At(usize),
-    Nothing,
 }
 
 // A row of the book.
@@ -127,6 +90,45 @@ impl Fault {
             Fault::Excess => 19,
         }
     }
+}
+
+// ---- what the reader goes by; what is public of it is so only for the laws of crates above, which name it
+
+// The sections, in their order.
+enum Section {
+    Permissions,
+    Rows,
+    Policies,
+}
+
+// What looking at one count or one entry finds.
+pub enum Look {
+    Sound,
+    Faulty(Fault),
+}
+
+// Where the entry before stands, if there is one.
+pub enum Before {
+    Nothing,
+    Entry(usize),
+}
+
+// Where the reader stands in a section.
+struct Cursor {
+    pub before: Before,
+    pub at: usize,
+}
+
+// What reading a section comes to: the place past it, or its first fault with its place.
+enum Step {
+    Next(usize),
+    Refused(Fault, usize),
+}
+
+// Where an entry stands.
+pub enum Place {
+    At(usize),
+    Nothing,
 }
 
 // ---- the book
