@@ -77,13 +77,13 @@ cases =
 
 -- ---- the fact
 
-abbrev pub outcomeOf : Case → Outcome
-outcomeOf (filled table P absent d t gives outcome) = filling table P d t (setOfRows absent)
+abbrev pub computed : Case → Outcome
+computed (filled table P absent d t gives outcome) = filling table P d t (setOfRows absent)
 
-abbrev pub outcomeTold : Case → Outcome
-outcomeTold (question gives outcome) = outcome
+abbrev pub stated : Case → Outcome
+stated (question gives outcome) = outcome
 
 -- the definition fills each case of the table as it says
-pub cases-hold : map outcomeOf cases ≡ map outcomeTold cases
+pub cases-hold : map computed cases ≡ map stated cases
 unfolding bit sumTo toN cons? members filter hasb setOf ones onesIn trailingZeros placeOf closeOf placedOf candidates tryEach search
 cases-hold = refl

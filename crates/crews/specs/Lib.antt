@@ -1,5 +1,5 @@
 pub mod Filling
-pub mod Filled
-pub mod Named
 pub mod Cases
+pub mod Named
+pub mod Filled
 pub mod Laws

@@ -3,7 +3,7 @@
 use mathlib.Core.Path.{_≡_, refl}
 use mathlib.Core.Bool.{Bool}
 use mathlib.Core.List.{List, [], _∷_, _++_, map}
-use Prim.Native.Nat.{ℕ, zero, suc, _+_, _-_, _^_}
+use Prim.Native.Nat.{ℕ, _+_, _-_, _^_}
 use lib.Count.{ones, onesIn}
 use lib.ListN.{length, replicate}
 use Rattle.sets.specs.Sets.{bit}
@@ -12,6 +12,9 @@ use Rattle.sets.specs.Members.{cons?, members, filter}
 use Rattle.sets.specs.Arrays.{tabulate}
 use Rattle.sets.specs.Laws.Image.{image, put}
 use Rattle.roster.specs.declared.Table.{Table}
+use Rattle.roster.specs.declared.Policy.{Policy}
+use Rattle.roster.specs.declared.Made.{Made}
+use Rattle.roster.specs.declared.Made.the-variants as made
 use Rattle.roster.specs.declared.Refusal.the-variants.{Size}
 use Rattle.roster.specs.declared.Ruling.{Ruling}
 use Rattle.roster.specs.declared.Ruling.the-variants as ruling
@@ -20,7 +23,7 @@ use Rattle.roster.specs.declared.Verdict.the-variants.{Yes, No, Undecide
 use Rattle.roster.specs.declared.Reply.{Reply}
 use Rattle.roster.specs.Limits.{rowLimit}
 use Rattle.roster.specs.Meaning.{ahead, rank}
-use Rattle.roster.specs.Refusals.{numberOf, policyRuling, namedRuling}
+use Rattle.roster.specs.Refusals.{numberOf, policyRuling, namedRuling, madeOf}
 use Rattle.roster.specs.Replies.{replyWith}
 use Rattle.roster.specs.Laws.Rank.{outweighsb}
 use Rattle.roster.specs.Laws.Lists.{ranks}
@@ -44,6 +47,8 @@ pub data Question : Type 0 where
   -- a policy question, and one for a named absence: by which published number are they refused?
   policy : (rows P s d t : ℕ) → Question
   named : (rows P d t A : ℕ) → Question
+  -- which policy is made of these numbers?
+  making : (P s d t : ℕ) → Question
   -- of each row of the table: which rows outweigh it, which are ahead of it?
   outweighing : Table → (P : ℕ) → Question
   going-ahead : Table → (P : ℕ) → Question
@@ -56,6 +61,7 @@ pub data Question : Type 0 where
 pub data Answer : Type 0 where
   admitted : Answer
   refused : (number : ℕ) → Answer
+  makes : Policy → Answer
   numbers : List ℕ → Answer
   by-row : List (List ℕ) → Answer
   reply : Reply → Answer
@@ -184,6 +190,16 @@ names-at-fault =
     ∷ named 4 0 9 65 (setOfRows (4 ∷ [])) gives refused 2
     ∷ []
 
+-- P, s, d, t: the policy, or its own first fault
+abbrev pub policies-made : List Example
+policies-made =
+    making 3 1 2 4 gives makes (record { task = 3; away = 1; crews = 2; size = 4 })
+    ∷ making 0 65 2 4 gives refused 2
+    ∷ making 3 65 9 4 gives refused 3
+    ∷ making 3 1 9 0 gives refused 4
+    ∷ making 3 1 2 65 gives refused 5
+    ∷ []
+
 abbrev pub standing : List Example
 standing =
     -- of equal rows the first; of rows 1 and 2 neither, although row 1 is ahead
@@ -224,13 +240,17 @@ replies =
     ∷ []
 
 abbrev pub examples : List Example
-examples = policies ++ policies-at-fault ++ names ++ names-at-fault ++ standing ++ replies
+examples = policies ++ policies-at-fault ++ names ++ names-at-fault ++ policies-made ++ standing ++ replies
 
 -- ---- the fact
 
 abbrev told : Ruling → Answer
 told ruling.Admitted = admitted
 told (ruling.Refused refusal) = refused (numberOf refusal)
+
+abbrev told-made : Made → Answer
+told-made (made.Policy p) = makes p
+told-made (made.Refused refusal) = refused (numberOf refusal)
 
 -- the table's rows that pass
 abbrev below : Table → (ℕ → Bool) → List ℕ
@@ -240,19 +260,20 @@ below table test = filter test (tabulate (table .rows) (λ u. u))
 abbrev pub answerOf : Question → Answer
 answerOf (policy rows P s d t) = told (policyRuling rows P s d t)
 answerOf (named rows P d t A) = told (namedRuling rows P d t A)
+answerOf (making P s d t) = told-made (madeOf P s d t)
 answerOf (outweighing table P) = by-row (tabulate (table .rows) (λ v. below table (λ u. outweighsb table P u v)))
 answerOf (going-ahead table P) = by-row (tabulate (table .rows) (λ v. below table (λ u. ahead table P u v)))
 answerOf (each-rank table P) = numbers (tabulate (table .rows) (rank table P))
 answerOf (ranks-of table P A) = numbers (ranks table P A)
 answerOf (coming-back verdict) = reply (replyWith (1 ∷ 2 ∷ 3 ∷ 4 ∷ 5 ∷ 6 ∷ 7 ∷ 8 ∷ []) 9 10 11 verdict)
 
-abbrev pub questionOf : Example → Question
-questionOf (q gives a) = q
+abbrev pub computed : Example → Answer
+computed (question gives answer) = answerOf question
 
-abbrev pub answerTold : Example → Answer
-answerTold (q gives a) = a
+abbrev pub stated : Example → Answer
+stated (question gives answer) = answer
 
 -- the definitions give each answer of the table
-pub examples-hold : map (λ (e : Example). answerOf (questionOf e)) examples ≡ map answerTold examples
+pub examples-hold : map computed examples ≡ map stated examples
 unfolding bit sumTo toN cons? members filter tabulate image put ones onesIn ahead rank outweighsb ranks policyRuling namedRuling
 examples-hold = refl

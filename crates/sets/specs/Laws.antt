@@ -5,10 +5,10 @@ pub mod Missing
 pub mod Sizes
 pub mod Change
 pub mod Drop
+pub mod Unions
 pub mod Sums
 pub mod Tests
 pub mod Build
 pub mod Members
 pub mod Image
-pub mod Unions
 pub mod Arrays

@@ -2,5 +2,5 @@ pub mod Mask
 pub mod Sums
 pub mod Members
 pub mod Arrays
-pub mod Laws
 pub mod Sets
+pub mod Laws

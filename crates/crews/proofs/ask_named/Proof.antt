@@ -93,19 +93,26 @@ fill-requires c κs = search needs
 reply-of-requires : tie.Need-reply-of-requires
 reply-of-requires c κs = search needs
 
+-- what was asked is what is ruled on
+ruled : (c : tie.After-named-ruling)
+    → namedRuling (c .before .args .table .rows) (c .before .args .task) (c .before .args .crews) (c .before .args .size) (c .before .args .absent)
+    ≡ c .named-ruling .result
+ruled c = sym (c .named-ruling .ensures)
+
 returns : tie.Need-returns
 returns c =
-    let s = c .before .before .before .before .before .args in
-    let ruled = c .before .before .before .before .named-ruling .ensures in
+    let p = c .before .before .before .before in
+    let s = p .before .args in
     let given = c .before .before .refusal .given in
-    refused (s .table) (s .task) (s .crews) (s .size) (s .absent) (s .allowance) (c .before .before .before .before .before .fits .task .fits) _ (given .0 .0)
-    (sym ruled ∙ given .1) (c .refused .ensures)
+    refused (s .table) (s .task) (s .crews) (s .size) (s .absent) (s .allowance) (p .before .fits .task .fits) _ (given .0 .0)
+    (ruled p ∙ given .1) (c .refused .ensures)
 
 returns-2 : tie.Need-returns-2
 returns-2 c =
-    let s = c .before .before .before .before .before .before .before .before .before .before .before .args in
-    let wide = c .before .before .before .before .before .before .before .before .before .before .before .fits .task .fits in
-    let ok = sym (c .before .before .before .before .before .before .before .before .before .before .named-ruling .ensures) ∙ c .before .before .before .before .before .before .before .before .enum-told .given .1 in
+    let p = c .before .before .before .before .before .before .before .before .before .before in
+    let s = p .before .args in
+    let wide = p .before .fits .task .fits in
+    let ok = ruled p ∙ c .before .before .before .before .before .before .before .before .enum-told .given .1 in
     let k = named-within (s .table .rows) (s .task) (s .crews) (s .size) (s .absent) ok .0 in
     admitted (s .table) (s .task) (s .crews) (s .size) (s .absent) (s .allowance) wide (c .reply-of .result) ok
     (c .reply-of .ensures

@@ -30,28 +30,30 @@ enum-told c = search needs
 past-rows-requires : tie.Need-past-rows-requires
 past-rows-requires c κs = search needs
 
+-- the ruling that was asked for is that of the policy with nobody away
+ruled : (c : tie.After-policy-ruling)
+    → policyRuling (c .before .args .rows) (c .before .args .task) 0 (c .before .args .crews) (c .before .args .size) ≡ c .policy-ruling .result
+ruled c = sym (c .policy-ruling .ensures)
+
 returns : tie.Need-returns
 returns c =
     let p = c .before .before .before in
     let a = p .before .args in
-    let ruled : policyRuling (a .rows) (a .task) 0 (a .crews) (a .size) ≡ p .policy-ruling .result = sym (p .policy-ruling .ensures) in
-    by-policy (a .rows) (a .task) (a .crews) (a .size) (a .absent) (ruled ∙ c .before .refusal .given .1)
+    by-policy (a .rows) (a .task) (a .crews) (a .size) (a .absent) (ruled p ∙ c .before .refusal .given .1)
 
 returns-2 : tie.Need-returns-2
 returns-2 c =
     let p = c .before .before .before .before in
     let a = p .before .args in
-    let ruled : policyRuling (a .rows) (a .task) 0 (a .crews) (a .size) ≡ p .policy-ruling .result = sym (p .policy-ruling .ensures) in
     ap (λ (b : Bool). refusedIf b Absence Admitted) (sym (c .if1 .taken) ∙ c .before .past-rows .ensures)
-    ∙ by-policy (a .rows) (a .task) (a .crews) (a .size) (a .absent) (ruled ∙ c .before .before .enum-told .given .1)
+    ∙ by-policy (a .rows) (a .task) (a .crews) (a .size) (a .absent) (ruled p ∙ c .before .before .enum-told .given .1)
 
 returns-3 : tie.Need-returns-3
 returns-3 c =
     let p = c .before .before .before .before in
     let a = p .before .args in
-    let ruled : policyRuling (a .rows) (a .task) 0 (a .crews) (a .size) ≡ p .policy-ruling .result = sym (p .policy-ruling .ensures) in
     ap (λ (b : Bool). refusedIf b Absence Admitted) (sym (c .if1 .left) ∙ c .before .past-rows .ensures)
-    ∙ by-policy (a .rows) (a .task) (a .crews) (a .size) (a .absent) (ruled ∙ c .before .before .enum-told .given .1)
+    ∙ by-policy (a .rows) (a .task) (a .crews) (a .size) (a .absent) (ruled p ∙ c .before .before .enum-told .given .1)
 
 pub named-ruling-spec : {M : Type 1} → statement M
 named-ruling-spec =
