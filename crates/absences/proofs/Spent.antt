@@ -70,7 +70,7 @@ judge most spent w r e =
 
 -- ---- two lists one after the other: `r` is what the first comes to
 
-pub open-blocked : (x : Course) → x ≡ Open → x ≡ Blocked → ⊥
+open-blocked : (x : Course) → x ≡ Open → x ≡ Blocked → ⊥
 open-blocked x p q = let z : _≡_ {A = ℕ} 0 1 = cc in omega arith
 
 pub open-undecided : (x : Course) → x ≡ Open → x ≡ Undecided → ⊥

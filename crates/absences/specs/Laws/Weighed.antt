@@ -2,7 +2,7 @@
 -- on: a list that leaves some absences out, but not the first blocker, never needs more. Here "blocks" is what the filling finds; `Demands` puts
 -- the meaning in its place. Assumes nothing.
 use mathlib.Core.Path.{_≡_, refl, sym, ap, _∙_, subst}
-use mathlib.Core.Logic.{_⊎_, inl, inr, _↔_}
+use mathlib.Core.Logic.{_⊎_, inl, inr}
 use mathlib.Core.Bool.{Bool, true, false}
 use mathlib.Core.List.{List, [], _∷_, _++_, List·Memᴰ, List·Memᴰ·head, List·Memᴰ·tail, List·Memᴰ·not-nil, List·Memᴰ·cases-cons}
 use Prim.Native.Nat.{ℕ, zero, suc, _+_, _≤_}
@@ -53,11 +53,6 @@ on-top-fits A o w e = rw e
 
 on-top-blocks : (A : ℕ) (o : Outcome) (w : Found) → o .found ≡ false → onTop A o w ≡ record { blocked = true; blocker = A; need = unitsOf o }
 on-top-blocks A o w e = rw e
-
--- the sum over a list
-unfoldable pub sumOf : (ℕ → ℕ) → List ℕ → ℕ
-sumOf f [] = 0
-sumOf f (A ∷ l) = f A + sumOf f l
 
 module _ (table : Table) (P d t : ℕ) where
   abbrev fits : ℕ → Bool
@@ -145,33 +140,6 @@ module _ (table : Table) (P d t : ℕ) where
           subst (Stops (A ∷ l)) (sym (ap Found.blocker (weighed-fits A l f)))
           (stops-later A (tries l .blocker) l f (ih (sym (ap Found.blocked (weighed-fits A l f)) ∙ e)))
       go (inr f) ih = subst (Stops (A ∷ l)) (sym (ap Found.blocker (weighed-blocks A l f))) (stops-here A l f)
-
-  -- something blocks exactly if the filling finds no list for one of them
-  pub blocked-iff : (l : List ℕ) → (tries l .blocked ≡ true) ↔ ((A : ℕ) × List·Memᴰ A l × (fits A ≡ false))
-  blocked-iff l = (λ e. let s = stops l e in (tries l .blocker, s .listed, s .stuck), λ x. go x (either (tries l .blocked)))
-    where
-      go : (A : ℕ) × List·Memᴰ A l × (fits A ≡ false) → (tries l .blocked ≡ true) ⊎ (tries l .blocked ≡ false) → tries l .blocked ≡ true
-      go x (inl e) = e
-      go (A, i, f) (inr e) = absurd (clash (all-fit l e A i) f)
-
-  -- ---- the need is a sum
-
-  -- of the whole list, if nothing in it blocks
-  pub weighed-all : (l : List ℕ) → ((A : ℕ) → List·Memᴰ A l → fits A ≡ true) → tries l .need ≡ sumOf cost l
-  unfolding sumOf
-  weighed-all [] f = ap Found.need weighed-none
-  weighed-all (A ∷ l) f =
-      let rest = weighed-all l (λ B i. f B (List·Memᴰ·tail i)) in
-      omega (arith, ap Found.need (weighed-fits A l (f A (List·Memᴰ·head refl))))
-
-  -- up to and including B, if B is the first that blocks
-  pub weighed-first : (l m : List ℕ) (B : ℕ) → ((A : ℕ) → List·Memᴰ A l → fits A ≡ true) → fits B ≡ false
-      → tries (l ++ (B ∷ m)) .need ≡ sumOf cost (l ++ (B ∷ []))
-  unfolding sumOf
-  weighed-first [] m B f b = omega (arith, ap Found.need (weighed-blocks B m b))
-  weighed-first (A ∷ l) m B f b =
-      let rest = weighed-first l m B (λ C i. f C (List·Memᴰ·tail i)) b in
-      omega (arith, ap Found.need (weighed-fits A (l ++ (B ∷ m)) (f A (List·Memᴰ·head refl))))
 
 -- ---- a list that leaves some absences out
 
