@@ -1,6 +1,6 @@
--- `row_of` meets its contract: a walk of its MIR, by hand. The struct is taken apart, and `row_at` is called on the slice, the start of the rows and the
+-- `row_of` meets its contract: a walk of its MIR, by hand. The struct is taken apart, and `row_at` is called on the slice, the starts and the
 -- row. All that the proof knows of `row_at` is that it meets its contract.
--- The struct is Copy: what it owns is had twice, one copy is kept whole for the exit, and of the other what bytes owns goes to the callee, beside
+-- The struct is Copy: what it owns is had twice, one copy is kept whole for the exit, and what the fields of the other own goes to the callee, beside
 -- the lifetime's token, which comes back. What a number owns is made anew.
 -- Assumes nothing.
 use mathlib.Core.Path.{_≡_, refl}
