@@ -2,6 +2,8 @@
 use crate::known;
 use crate::known::LISTED;
 use crate::known::Wanted;
+use crate::question::Question;
+use crate::shown::show_difference;
 use roster::Reply;
 use roster::Verdict;
 
@@ -29,69 +31,112 @@ pub const KINDS: usize = 9;
 // The kinds of verdict.
 pub const VERDICTS: usize = 6;
 
-// How many comparisons of each kind were made and how many differed, and how many replies had each verdict.
+// How many comparisons of a kind were made, how many differed, and by which table the first.
+pub struct Kind {
+    pub compared: u64,
+    pub differ: u64,
+    pub first: usize,
+}
+
+impl Kind {
+    // One comparison more, by this table, a difference unless both sides are the same.
+    fn with(self, same: bool, table: usize) -> Kind {
+        let differs = if same { 0 } else { 1 };
+        Kind {
+            compared: std::num::wrapping_add_u64(self.compared, 1),
+            differ: std::num::wrapping_add_u64(self.differ, differs),
+            first: if self.differ == 0 { table } else { self.first },
+        }
+    }
+}
+
+const NONE: Kind = Kind {
+    compared: 0,
+    differ: 0,
+    first: 0,
+};
+
+// The comparisons of each kind, and how many replies had each verdict. `table` is the one being tried; the first difference of the kind `shown` is
+// written to standard output.
 pub struct Counts {
-    pub compared: [u64; KINDS],
-    pub differ: [u64; KINDS],
+    pub kinds: [Kind; KINDS],
     pub replied: [u64; VERDICTS],
+    pub table: usize,
+    pub shown: usize,
 }
 
 impl Counts {
+    // Nothing yet, and nothing is to be shown.
     pub(crate) fn none() -> Counts {
+        Counts::showing(KINDS)
+    }
+
+    // Nothing yet; the first difference of the kind is to be shown.
+    pub(crate) fn showing(kind: usize) -> Counts {
         Counts {
-            compared: [0; KINDS],
-            differ: [0; KINDS],
+            kinds: [NONE; KINDS],
             replied: [0; VERDICTS],
+            table: 0,
+            shown: kind,
         }
     }
 
-    // One comparison more of this kind, a difference unless both sides are the same.
+    // The table with this number is tried next.
+    pub(crate) fn at(self, table: usize) -> Counts {
+        let kinds = self.kinds;
+        let replied = self.replied;
+        Counts {
+            kinds: kinds,
+            replied: replied,
+            table: table,
+            shown: self.shown,
+        }
+    }
+
+    // What was counted of the kind; nothing where there is no such kind.
+    pub(crate) fn of(self, kind: usize) -> Kind {
+        if kind < KINDS {
+            return self.kinds[kind];
+        }
+        NONE
+    }
+
+    // One comparison more of this kind.
     pub(crate) fn noted(self, kind: usize, same: bool) -> Counts {
-        let mut compared = self.compared;
-        let mut differ = self.differ;
+        let mut kinds = self.kinds;
         let replied = self.replied;
         if kind < KINDS {
-            compared[kind] = std::num::wrapping_add_u64(compared[kind], 1);
-            if !same {
-                differ[kind] = std::num::wrapping_add_u64(differ[kind], 1);
-            }
+            kinds[kind] = self.of(kind).with(same, self.table);
         }
         Counts {
-            compared: compared,
-            differ: differ,
+            kinds: kinds,
             replied: replied,
+            table: self.table,
+            shown: self.shown,
         }
     }
 
     // One reply more with this verdict.
     fn saw(self, verdict: usize) -> Counts {
-        let compared = self.compared;
-        let differ = self.differ;
+        let kinds = self.kinds;
         let mut replied = self.replied;
         if verdict < VERDICTS {
             replied[verdict] = std::num::wrapping_add_u64(replied[verdict], 1);
         }
         Counts {
-            compared: compared,
-            differ: differ,
+            kinds: kinds,
             replied: replied,
+            table: self.table,
+            shown: self.shown,
         }
     }
 
-    // How many comparisons of the kind found a difference.
-    pub(crate) fn found(self, kind: usize) -> u64 {
-        if kind >= KINDS {
-            return 0;
+    // Shows the difference if it is the first of the kind that is to be shown.
+    fn told(self, before: Counts, question: Question, wanted: Wanted, came: Wanted) -> Counts {
+        if before.of(self.shown).differ == 0 && self.of(self.shown).differ != 0 {
+            show_difference(question, wanted, came);
         }
-        self.differ[kind]
-    }
-
-    // How many comparisons of the kind were made.
-    pub(crate) fn made(self, kind: usize) -> u64 {
-        if kind >= KINDS {
-            return 0;
-        }
-        self.compared[kind]
+        self
     }
 
     // How many replies had the verdict.
@@ -147,7 +192,7 @@ fn same(a: Wanted, b: Wanted) -> bool {
 }
 
 // A policy question's reply, part by part.
-pub(crate) fn policy(counts: Counts, wanted: Wanted, reply: Reply) -> Counts {
+pub(crate) fn policy(counts: Counts, question: Question, wanted: Wanted, reply: Reply) -> Counts {
     let told = told(reply);
     let crews = told.crews;
     let right = wanted.crews;
@@ -157,30 +202,42 @@ pub(crate) fn policy(counts: Counts, wanted: Wanted, reply: Reply) -> Counts {
         .noted(BLOCKER, told.blocker == wanted.blocker)
         .noted(CREWS, same_crews(crews, right))
         .noted(UNITS, told.units == wanted.units)
+        .told(counts, question, wanted, told)
 }
 
 // A named absence's reply, whole.
-pub(crate) fn named(counts: Counts, wanted: Wanted, reply: Reply) -> Counts {
-    let told = told(reply);
-    counts.saw(told.verdict).noted(NAMED, same(told, wanted))
-}
-
-// The replies of the two searches with each other.
-pub(crate) fn both(counts: Counts, skipping: Reply, full: Reply) -> Counts {
-    counts
-        .noted(BOTH, same_answer(told(skipping), told(full)))
-        .noted(NEED, skipping.units <= full.units)
-}
-
-// The reply within an allowance, whole.
-pub(crate) fn allowed(counts: Counts, wanted: Wanted, allowance: u32, reply: Reply) -> Counts {
+pub(crate) fn named(counts: Counts, question: Question, wanted: Wanted, reply: Reply) -> Counts {
     let told = told(reply);
     counts
         .saw(told.verdict)
-        .noted(ALLOWANCE, same(told, wanted.within(allowance)))
+        .noted(NAMED, same(told, wanted))
+        .told(counts, question, wanted, told)
 }
 
-// What filling found, held against what trying everything says.
-pub(crate) fn filling(counts: Counts, found: bool, blocks: bool) -> Counts {
-    counts.noted(FILLING, found != blocks)
+// The reply of the search that skips, held against that of the full search.
+pub(crate) fn both(counts: Counts, question: Question, skipping: Reply, full: Reply) -> Counts {
+    let wanted = told(full);
+    let came = told(skipping);
+    counts
+        .noted(BOTH, same_answer(came, wanted))
+        .noted(NEED, came.units <= wanted.units)
+        .told(counts, question, wanted, came)
+}
+
+// The reply within the question's allowance, whole.
+pub(crate) fn allowed(counts: Counts, question: Question, wanted: Wanted, reply: Reply) -> Counts {
+    let told = told(reply);
+    let right = wanted.within(question.allowance);
+    counts
+        .saw(told.verdict)
+        .noted(ALLOWANCE, same(told, right))
+        .told(counts, question, right, told)
+}
+
+// Whether filling found a list, held against what trying everything says.
+pub(crate) fn filling(counts: Counts, question: Question, wanted: Wanted, found: bool) -> Counts {
+    let verdict = if found { known::CREWS } else { known::NONE };
+    counts
+        .noted(FILLING, verdict == wanted.verdict)
+        .told(counts, question, wanted, wanted.but(verdict))
 }

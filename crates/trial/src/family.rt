@@ -4,30 +4,23 @@ use crate::compare::Counts;
 use crate::known;
 use crate::known::Known;
 use crate::known::SETS;
+use crate::known::Wanted;
 use crate::plain::Duty;
 use crate::plain::PERMISSIONS;
 use crate::plain::ROWS;
+use crate::question;
+use crate::question::AMPLE;
+use crate::question::Asked;
+use crate::question::Question;
 use roster::Policy;
-use roster::Reply;
 use roster::Table;
 ghost use Prim.Native.Nat.{_<_};
-
-// More than any need here.
-const AMPLE: u32 = 4294967295;
 
 // As many numbers as `try_small` takes apart: 512 holdings, 4 row counts, 7 tasks, 4 values of d and 4 of t.
 const SMALL: usize = 229376;
 
 // As many tables are drawn.
 const DRAWN: usize = 6000;
-
-// A duty as the libraries are asked about it.
-pub struct Asked {
-    pub table: Table,
-    pub task: u32,
-    pub crews: usize,
-    pub size: u32,
-}
 
 // Where a permission stands in a row's holdings: in its own place, or spread over the whole width.
 fn bit_of(spread: bool, p: usize) -> u32 {
@@ -91,77 +84,69 @@ pub(crate) fn asked_of(duty: Duty, spread: bool, noise: u32) -> Asked {
     }
 }
 
-pub(crate) fn ask_policy(asked: Asked, skipping: bool, away: u32, allowance: u32) -> Reply {
-    let table = asked.table;
-    if skipping {
-        absences::ask_skipping(table, asked.task, away, asked.crews, asked.size, allowance)
-    } else {
-        absences::ask_full(table, asked.task, away, asked.crews, asked.size, allowance)
-    }
-}
-
-pub(crate) fn ask_named(asked: Asked, absent: u64, allowance: u32) -> Reply {
-    let table = asked.table;
-    crews::ask_named(
-        table,
-        asked.task,
-        asked.crews,
-        asked.size,
-        absent,
-        allowance,
-    )
+// The question within an allowance.
+fn try_within(counts: Counts, question: Question, wanted: Wanted, allowance: u32) -> Counts {
+    let narrowed = question.within(allowance);
+    compare::allowed(counts, narrowed, wanted, narrowed.reply())
 }
 
 // One policy question of one search: with an ample allowance, with the need, and with one unit less.
-fn try_search(
-    counts: Counts,
-    known: Known,
-    duty: Duty,
-    asked: Asked,
-    skipping: bool,
-    away: usize,
-) -> Counts {
-    let wanted = known.policy_reply(duty, skipping, away);
-    let s = size_of(away);
+fn try_search(counts: Counts, question: Question, wanted: Wanted) -> Counts {
     let need = wanted.units;
-    let short = std::num::wrapping_sub_u32(need, 1);
-    let ample = compare::policy(counts, wanted, ask_policy(asked, skipping, s, AMPLE));
-    let exact = compare::allowed(ample, wanted, need, ask_policy(asked, skipping, s, need));
-    compare::allowed(exact, wanted, short, ask_policy(asked, skipping, s, short))
+    let ample = compare::policy(counts, question, wanted, question.reply());
+    let exact = try_within(ample, question, wanted, need);
+    try_within(exact, question, wanted, std::num::wrapping_sub_u32(need, 1))
 }
 
 // One policy question, by both searches.
 fn try_policy(counts: Counts, known: Known, duty: Duty, asked: Asked, away: usize) -> Counts {
     let s = size_of(away);
-    let skipped = try_search(counts, known, duty, asked, true, away);
-    let searched = try_search(skipped, known, duty, asked, false, away);
+    let skipping = question::policy(asked, question::SKIPPING, s);
+    let full = question::policy(asked, question::FULL, s);
+    let skipped = try_search(counts, skipping, known.policy_reply(duty, true, away));
+    let searched = try_search(skipped, full, known.policy_reply(duty, false, away));
     compare::both(
         searched,
-        ask_policy(asked, true, s, AMPLE),
-        ask_policy(asked, false, s, AMPLE),
+        question::policy(asked, question::BOTH, s),
+        skipping.reply(),
+        full.reply(),
     )
 }
 
 // The question for the absence with this number: with an ample allowance, with the need, and with one unit less if it needs any.
-fn try_named(counts: Counts, known: Known, duty: Duty, asked: Asked, number: usize) -> Counts {
-    let wanted = known::named_reply(known, duty, number);
-    let absent = known::mask_of(known::set_of(number));
+fn try_named(counts: Counts, question: Question, wanted: Wanted) -> Counts {
     let need = wanted.units;
-    let ample = compare::named(counts, wanted, ask_named(asked, absent, AMPLE));
-    let exact = compare::allowed(ample, wanted, need, ask_named(asked, absent, need));
+    let ample = compare::named(counts, question, wanted, question.reply());
+    let exact = try_within(ample, question, wanted, need);
     if need == 0 {
         return exact;
     }
-    compare::allowed(exact, wanted, need - 1, ask_named(asked, absent, need - 1))
+    try_within(exact, question, wanted, need - 1)
 }
 
-// The question for each absence, and filling held against trying everything.
+// The absence with this number: filling held against trying everything, and the question for it.
+fn try_absence(counts: Counts, known: Known, duty: Duty, asked: Asked, number: usize) -> Counts {
+    let absent = known::mask_of(known::set_of(number));
+    let wanted = known::named_reply(known, duty, number);
+    let filled = compare::filling(
+        counts,
+        question::named(asked, question::FILLING, absent),
+        wanted,
+        known.fact(number).found,
+    );
+    try_named(
+        filled,
+        question::named(asked, question::NAMED, absent),
+        wanted,
+    )
+}
+
+// Each absence.
 fn try_absences(counts: Counts, known: Known, duty: Duty, asked: Asked) -> Counts {
     let mut now = counts;
     for number in 0..SETS {
         if number < known.sets {
-            now = compare::filling(now, known.found[number], known.blocks[number]);
-            now = try_named(now, known, duty, asked, number);
+            now = try_absence(now, known, duty, asked, number);
         }
     }
     now
@@ -230,7 +215,7 @@ fn try_small(counts: Counts, number: usize) -> Counts {
 pub(crate) fn try_all_small(counts: Counts) -> Counts {
     let mut now = counts;
     for number in 0..SMALL {
-        now = try_small(now, number);
+        now = try_small(now.at(number), number);
     }
     now
 }
@@ -264,9 +249,12 @@ fn digit(number: u64, base: u64) -> usize
     if last < 64 { last } else { 0 }
 }
 
-// One table of 4 to 6 rows with one policy, from four drawn numbers. A row holds a permission with one chance in two, in most tables with
-// three in four: where little is held, nearly everything blocks.
-fn try_drawn(counts: Counts, a: u64, b: u64, c: u64, d: u64) -> Counts {
+// One table of 4 to 6 rows with one policy, from four drawn numbers, of which the first is given. A row holds a permission with one chance in two,
+// in most tables with three in four: where little is held, nearly everything blocks.
+fn try_drawn(counts: Counts, a: u64) -> Counts {
+    let b = next(a);
+    let c = next(b);
+    let d = next(c);
     let cells = if c % 4 == 0 { a } else { a | b };
     let size = digit(c / 64, 5);
     let duty = Duty {
@@ -278,25 +266,43 @@ fn try_drawn(counts: Counts, a: u64, b: u64, c: u64, d: u64) -> Counts {
     };
     let asked = asked_of(duty, true, (d / 65536 % 4294967296) as u32);
     let known = known::known_of(duty);
-    try_policy(
-        try_absences(counts, known, duty, asked),
-        known,
-        duty,
-        asked,
-        digit(d / 1024, 5),
-    )
+    let tried = try_absences(counts, known, duty, asked);
+    try_policy(tried, known, duty, asked, digit(d / 1024, 5))
 }
 
-// Tables of 4 to 6 rows, drawn by a fixed row of numbers.
+// The number that the next table is drawn from.
+fn next_drawn(a: u64) -> u64 {
+    next(next(next(next(a))))
+}
+
+const FIRST_DRAWN: u64 = 88172645463325252;
+
+// Tables of 4 to 6 rows, drawn by a fixed row of numbers. They are numbered behind the small ones.
 pub(crate) fn try_all_drawn(counts: Counts) -> Counts {
     let mut now = counts;
-    let mut a: u64 = 88172645463325252;
-    for _ in 0..DRAWN {
-        let b = next(a);
-        let c = next(b);
-        let d = next(c);
-        now = try_drawn(now, a, b, c, d);
-        a = next(d);
+    let mut a = FIRST_DRAWN;
+    for i in 0..DRAWN {
+        now = try_drawn(now.at(SMALL + i), a);
+        a = next_drawn(a);
     }
     now
+}
+
+// The number that the drawn table with this index is drawn from.
+fn drawn(index: usize) -> u64 {
+    let mut a = FIRST_DRAWN;
+    for i in 0..DRAWN {
+        if i < index {
+            a = next_drawn(a);
+        }
+    }
+    a
+}
+
+// One table by its number.
+pub(crate) fn try_table(counts: Counts, number: usize) -> Counts {
+    if number < SMALL {
+        return try_small(counts, number);
+    }
+    try_drawn(counts, drawn(number - SMALL))
 }

@@ -1,11 +1,11 @@
 // What is known of every set of rows as an absence, and from that what a reply has to be. Blocking is known by trying everything; need and
 // crews by the plain rules of filling and of the order of absences.
 use crate::brute;
-use crate::plain;
+use crate::filling::Placed;
+use crate::order;
+use crate::order::Ranks;
 use crate::plain::Duty;
-use crate::plain::Placed;
 use crate::plain::ROWS;
-use crate::plain::Ranks;
 use crate::plain::after;
 ghost use Prim.Native.Nat.{_≤_};
 
@@ -15,15 +15,20 @@ pub const SETS: usize = 64;
 // Crews of a reply.
 pub const LISTED: usize = 8;
 
-// For each set by its number: how many rows it has, whether it blocks, whether filling found a list and after how many placements, whether
-// it is worth trying. `order` has the numbers in the order of absences.
+// Of a set as an absence: how many rows it has, whether it blocks, whether filling found a list and after how many placements, whether it is worth
+// trying.
+pub struct Fact {
+    pub size: usize,
+    pub blocks: bool,
+    pub found: bool,
+    pub units: u32,
+    pub worth: bool,
+}
+
+// The facts by the sets' numbers, and the numbers in the order of absences.
 pub struct Known {
     pub sets: usize,
-    pub size: [usize; SETS],
-    pub blocks: [bool; SETS],
-    pub found: [bool; SETS],
-    pub units: [u32; SETS],
-    pub worth: [bool; SETS],
+    pub facts: [Fact; SETS],
     pub order: [usize; SETS],
 }
 
@@ -112,7 +117,7 @@ pub(crate) fn crews_of(placed: Placed) -> [u64; LISTED] {
 
 // The ranks of the set with this number.
 fn list_of(ranks: [usize; ROWS], rows: usize, number: usize) -> Ranks {
-    plain::ranks_of(ranks, rows, set_of(number))
+    order::ranks_of(ranks, rows, set_of(number))
 }
 
 // How many absences come before the one with this number.
@@ -141,49 +146,62 @@ fn order_of(ranks: [usize; ROWS], rows: usize) -> [usize; SETS] {
     order
 }
 
+fn fact_of(duty: Duty, ranks: [usize; ROWS], number: usize) -> Fact {
+    let absent = set_of(number);
+    let filled = duty.fill(absent);
+    Fact {
+        size: order::ranks_of(ranks, duty.rows, absent).count,
+        blocks: brute::blocks(duty, absent),
+        found: filled.found && !filled.lost,
+        units: filled.units,
+        worth: duty.worth(absent),
+    }
+}
+
+// What is taken for the facts of a set that is not there.
+const NOTHING: Fact = Fact {
+    size: SETS,
+    blocks: false,
+    found: false,
+    units: 0,
+    worth: false,
+};
+
 // All that is known for this duty.
 pub(crate) fn known_of(duty: Duty) -> Known {
     let ranks = duty.ranks();
     let sets = sets_of(duty.rows);
-    let mut size = [0usize; SETS];
-    let mut blocks = [false; SETS];
-    let mut found = [false; SETS];
-    let mut units = [0u32; SETS];
-    let mut worth = [false; SETS];
+    let mut facts = [NOTHING; SETS];
     for number in 0..sets {
-        let absent = set_of(number);
-        let filled = duty.fill(absent);
-        size[number] = plain::ranks_of(ranks, duty.rows, absent).count;
-        blocks[number] = brute::blocks(duty, absent);
-        found[number] = filled.found && !filled.lost;
-        units[number] = filled.units;
-        worth[number] = duty.worth(absent);
+        facts[number] = fact_of(duty, ranks, number);
     }
-    let order = order_of(ranks, duty.rows);
     Known {
         sets: sets,
-        size: size,
-        blocks: blocks,
-        found: found,
-        units: units,
-        worth: worth,
-        order: order,
+        facts: facts,
+        order: order_of(ranks, duty.rows),
+    }
+}
+
+impl Fact {
+    // Whether the search tries it, with so many away.
+    fn is_tried(self, skipping: bool, away: usize) -> bool {
+        self.size <= away && (!skipping || self.worth)
     }
 }
 
 impl Known {
-    fn is_within(self, number: usize, away: usize) -> bool {
-        if number >= SETS {
-            return false;
+    // The facts of the set with this number.
+    pub(crate) fn fact(self, number: usize) -> Fact {
+        if number < SETS {
+            return self.facts[number];
         }
-        self.size[number] <= away
+        NOTHING
     }
 
-    fn is_blocking(self, number: usize) -> bool {
-        if number >= SETS {
-            return false;
-        }
-        self.blocks[number]
+    // Whether the set with this number blocks, of at most `away` rows.
+    fn is_blocker(self, number: usize, away: usize) -> bool {
+        let fact = self.fact(number);
+        number < self.sets && fact.size <= away && fact.blocks
     }
 
     // The number of the first absence of at most `away` rows that blocks, the earliest of all that do; SETS where none does.
@@ -192,7 +210,7 @@ impl Known {
         let rows = duty.rows;
         let mut best: usize = SETS;
         for number in 0..SETS {
-            if number < self.sets && self.is_within(number, away) && self.is_blocking(number) {
+            if self.is_blocker(number, away) {
                 if best == SETS
                     || list_of(ranks, rows, number).earlier(list_of(ranks, rows, best))
                 {
@@ -203,48 +221,26 @@ impl Known {
         best
     }
 
-    // The units of the absence at this place of the order, if it is tried: one and its placements.
-    fn units_at(self, place: usize, skipping: bool, away: usize) -> u32 {
-        let number = self.number_at(place);
-        if number >= SETS {
-            return 0;
+    // The facts of the set at this place of the order.
+    fn fact_at(self, place: usize) -> Fact {
+        if place < SETS {
+            if place < self.sets {
+                return self.fact(self.order[place]);
+            }
         }
-        if self.size[number] > away {
-            return 0;
-        }
-        if skipping && !self.worth[number] {
-            return 0;
-        }
-        std::num::wrapping_add_u32(1, self.units[number])
-    }
-
-    // The number at this place of the order; SETS past the last.
-    fn number_at(self, place: usize) -> usize {
-        if place >= SETS {
-            return SETS;
-        }
-        if place >= self.sets {
-            return SETS;
-        }
-        self.order[place]
-    }
-
-    // Whether the absence at this place is tried and filling finds no list for it.
-    fn ends_at(self, place: usize, skipping: bool, away: usize) -> bool {
-        let number = self.number_at(place);
-        if number >= SETS {
-            return false;
-        }
-        self.size[number] <= away && (!skipping || self.worth[number]) && !self.found[number]
+        NOTHING
     }
 
     // The need of the policy question: the units of the absences tried, up to and including the first that blocks.
     pub(crate) fn need(self, skipping: bool, away: usize) -> u32 {
         let mut need: u32 = 0;
         for place in 0..SETS {
-            need = std::num::wrapping_add_u32(need, self.units_at(place, skipping, away));
-            if self.ends_at(place, skipping, away) {
-                return need;
+            let fact = self.fact_at(place);
+            if fact.is_tried(skipping, away) {
+                need = std::num::wrapping_add_u32(need, std::num::wrapping_add_u32(1, fact.units));
+                if !fact.found {
+                    return need;
+                }
             }
         }
         need
@@ -274,7 +270,7 @@ impl Known {
 // What a question for the absence with this number has to reply: whether there is a list by trying everything, which by filling.
 pub(crate) fn named_reply(known: Known, duty: Duty, number: usize) -> Wanted {
     let filled = duty.fill(set_of(number));
-    if known.is_blocking(number) {
+    if known.fact(number).blocks {
         return Wanted {
             verdict: NONE,
             crews: [0; LISTED],
@@ -291,6 +287,17 @@ pub(crate) fn named_reply(known: Known, duty: Duty, number: usize) -> Wanted {
 }
 
 impl Wanted {
+    // The same with another verdict.
+    pub(crate) fn but(self, verdict: usize) -> Wanted {
+        let crews = self.crews;
+        Wanted {
+            verdict: verdict,
+            crews: crews,
+            blocker: self.blocker,
+            units: self.units,
+        }
+    }
+
     // What has to be replied within an allowance.
     pub(crate) fn within(self, allowance: u32) -> Wanted {
         if allowance < self.units {

@@ -1,83 +1,81 @@
 // The independent second program. It decides small tables by trying everything and computes units, first crews and the order of absences by
 // a plain transcription of the rules, with code and a data layout of its own; of the libraries it takes the types and the three questions, which it
 // asks, and compares. It prints how many comparisons of each kind it made and how many differ, which has to be none; then, of wrong replies that it
-// plants, how many the comparisons find, which has to be all.
+// plants, how many the comparisons find, which has to be all. Of a kind that differs the first difference is shown.
 mod brute;
 mod compare;
 mod family;
+mod filling;
 mod known;
+mod order;
 mod plain;
 mod planted;
+mod question;
+mod shown;
 
 use compare::Counts;
 use compare::KINDS;
+use compare::Kind;
+use compare::VERDICTS;
+use planted::Ground;
+use shown::show_name;
+use shown::show_verdict;
 
-// Writes the kind's name, and answers whether all of it was written.
-fn name(kind: usize) -> bool {
-    if kind == compare::VERDICT {
-        return io::write_all(1, b"verdict");
-    }
-    if kind == compare::BLOCKER {
-        return io::write_all(1, b"blocker");
-    }
-    if kind == compare::CREWS {
-        return io::write_all(1, b"crews");
-    }
-    if kind == compare::UNITS {
-        return io::write_all(1, b"units");
-    }
-    if kind == compare::NAMED {
-        return io::write_all(1, b"named absence");
-    }
-    if kind == compare::BOTH {
-        return io::write_all(1, b"both searches");
-    }
-    if kind == compare::NEED {
-        return io::write_all(1, b"need of skipping at most that of full");
-    }
-    if kind == compare::ALLOWANCE {
-        return io::write_all(1, b"allowance");
-    }
-    io::write_all(1, b"filling and trying everything")
+// "NAME: N compared, M differ"
+fn show(kind: usize, counted: Kind) {
+    show_name(
+        b"verdict|blocker|crews|units|named absence|both searches|need of skipping at most that of full|allowance|filling and trying everything",
+        kind,
+    );
+    io::write_all(1, b": ");
+    io::print_decimal(1, counted.compared);
+    io::write_all(1, b" compared, ");
+    io::print_decimal(1, counted.differ);
+    io::write_all(1, b" differ\n");
 }
 
-// "NAME: N compared, M differ", or of planted replies the same.
-fn show(counts: Counts, kind: usize) {
-    name(kind);
-    io::write_all(1, b": ");
-    io::print_decimal(1, counts.made(kind));
-    io::write_all(1, b" compared, ");
-    io::print_decimal(1, counts.found(kind));
-    io::write_all(1, b" differ\n");
+// A kind of comparison; where it differs, the table by which it did first is tried again.
+fn show_kind(kind: usize, counted: Kind) {
+    show(kind, counted);
+    if counted.differ != 0 {
+        family::try_table(Counts::showing(kind), counted.first);
+    }
 }
 
 fn show_all(counts: Counts) {
     for kind in 0..KINDS {
-        show(counts, kind);
+        show_kind(kind, counts.of(kind));
     }
 }
 
+// "replies: yes N, no N, .."
 fn show_replies(counts: Counts) {
-    io::write_all(1, b"replies: yes ");
-    io::print_decimal(1, counts.seen(known::YES));
-    io::write_all(1, b", no ");
-    io::print_decimal(1, counts.seen(known::NO));
-    io::write_all(1, b", undecided ");
-    io::print_decimal(1, counts.seen(known::UNDECIDED));
-    io::write_all(1, b", crews ");
-    io::print_decimal(1, counts.seen(known::CREWS));
-    io::write_all(1, b", none ");
-    io::print_decimal(1, counts.seen(known::NONE));
-    io::write_all(1, b", refused ");
-    io::print_decimal(1, counts.seen(known::REFUSED));
+    let mut mark = b':';
+    io::write_all(1, b"replies");
+    for verdict in 0..VERDICTS {
+        io::write_all(1, &[mark, b' ']);
+        show_verdict(verdict);
+        io::write_all(1, b" ");
+        io::print_decimal(1, counts.seen(verdict));
+        mark = b',';
+    }
     io::write_all(1, b"\n");
 }
 
-fn show_planted() {
-    let ground = planted::replies();
+// A kind of comparison of planted replies, and what the first difference looks like.
+fn show_planted(ground: Ground, kind: usize) {
+    io::write_all(1, b"planted ");
+    show(
+        kind,
+        planted::planted(Counts::none(), ground, kind).of(kind),
+    );
+    planted::planted(Counts::showing(kind), ground, kind);
+}
+
+fn show_all_planted() {
+    let ground = planted::example_ground();
     for kind in 0..KINDS {
-        io::write_all(1, b"planted ");
-        show(planted::planted(ground, kind), kind);
+        show_planted(ground, kind);
     }
 }
 
@@ -85,5 +83,5 @@ fn main() {
     let counts = family::try_all_drawn(family::try_all_small(Counts::none()));
     show_all(counts);
     show_replies(counts);
-    show_planted();
+    show_all_planted();
 }

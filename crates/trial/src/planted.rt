@@ -5,16 +5,17 @@ use crate::family;
 use crate::known;
 use crate::known::Wanted;
 use crate::plain::Duty;
+use crate::question;
+use crate::question::Asked;
+use crate::question::Question;
 use roster::Reply;
 use roster::Verdict;
 
 // What is planted into: the replies to the paper's example a by both searches, and to one named absence, with what each has to be.
 pub struct Ground {
+    asked: Asked,
     policy: Wanted,
-    skipping: Reply,
-    full: Reply,
     named: Wanted,
-    crews: Reply,
 }
 
 // Rows that hold 3, 1, 2 and 3, asked for two crews of two.
@@ -35,20 +36,33 @@ fn example() -> Duty {
     }
 }
 
-pub(crate) fn replies() -> Ground {
+pub(crate) fn example_ground() -> Ground {
     let duty = example();
     let asked = family::asked_of(duty, false, 0);
     let known = known::known_of(duty);
     Ground {
+        asked: asked,
         policy: known.policy_reply(duty, true, 1),
-        skipping: family::ask_policy(asked, true, 1, 1000),
-        full: family::ask_policy(asked, false, 1, 1000),
         named: known::named_reply(known, duty, 1),
-        crews: family::ask_named(asked, 1, 1000),
     }
 }
 
-// The reply with one part altered: the verdict, the blocker, the crews or the units, numbered as the kinds of comparison are.
+impl Ground {
+    // The policy question by this way, with one away.
+    fn policy_question(self, way: usize) -> Question {
+        let asked = self.asked;
+        question::policy(asked, way, 1)
+    }
+
+    // The question for the first row absent by this way.
+    fn named_question(self, way: usize) -> Question {
+        let asked = self.asked;
+        question::named(asked, way, 1)
+    }
+}
+
+// The reply with one part altered: the verdict, the blocker, the crews or the units, of which there are then more; parts are numbered as the
+// kinds of comparison are.
 fn altered(reply: Reply, part: usize) -> Reply {
     let right = reply.verdict;
     let verdict = if part == compare::VERDICT {
@@ -69,60 +83,82 @@ fn altered(reply: Reply, part: usize) -> Reply {
             reply.blocker
         },
         units: if part == compare::UNITS {
-            reply.units ^ 1
+            reply.units ^ 4
         } else {
             reply.units
         },
     }
 }
 
-// The comparison of named absences, with each part altered.
-fn named(ground: Ground) -> Counts {
-    let mut counts = Counts::none();
-    for part in 0..4 {
-        counts = compare::named(counts, ground.named, altered(ground.crews, part));
-    }
-    counts
+// The comparison of policy questions, with this part altered.
+fn policy(counts: Counts, ground: Ground, part: usize) -> Counts {
+    let question = ground.policy_question(question::SKIPPING);
+    let wanted = ground.policy;
+    compare::policy(counts, question, wanted, altered(question.reply(), part))
 }
 
-// The comparison of the two searches, with each part altered but the units, in which they may differ.
-fn both(ground: Ground) -> Counts {
-    let mut counts = Counts::none();
-    for part in 0..3 {
-        counts = compare::both(counts, altered(ground.skipping, part), ground.full);
+// The comparison of named absences, with each part altered.
+fn named(counts: Counts, ground: Ground) -> Counts {
+    let question = ground.named_question(question::NAMED);
+    let wanted = ground.named;
+    let reply = question.reply();
+    let mut now = counts;
+    for part in 0..4 {
+        now = compare::named(now, question, wanted, altered(reply, part));
     }
-    counts
+    now
+}
+
+// The comparison of the two searches, with some parts altered: the units are a kind of their own, as the search that skips may need fewer.
+fn both(counts: Counts, ground: Ground, from: usize, to: usize) -> Counts {
+    let question = ground.policy_question(question::BOTH);
+    let full = ground.policy_question(question::FULL);
+    let reply = full.reply();
+    let mut now = counts;
+    for part in 0..4 {
+        if part >= from && part < to {
+            now = compare::both(now, question, altered(reply, part), reply);
+        }
+    }
+    now
 }
 
 // The comparison under an allowance: each part altered where the need is allowed, and a decided reply where one unit less is.
-fn allowed(ground: Ground) -> Counts {
-    let mut counts = compare::allowed(Counts::none(), ground.policy, 7, ground.skipping);
+fn allowed(counts: Counts, ground: Ground) -> Counts {
+    let question = ground.policy_question(question::SKIPPING);
+    let wanted = ground.policy;
+    let reply = question.reply();
+    let mut now = compare::allowed(counts, question.within(7), wanted, reply);
     for part in 0..4 {
-        counts = compare::allowed(counts, ground.policy, 8, altered(ground.skipping, part));
+        now = compare::allowed(now, question.within(8), wanted, altered(reply, part));
     }
-    counts
+    now
+}
+
+// The comparison of filling: no list found where there is one, and one found where there is none.
+fn filling(counts: Counts, ground: Ground) -> Counts {
+    let question = ground.named_question(question::FILLING);
+    let wanted = ground.named;
+    let missed = compare::filling(counts, question, wanted, false);
+    compare::filling(missed, question, wanted.but(known::NONE), true)
 }
 
 // The comparison of one kind, on wrong replies alone.
-pub(crate) fn planted(ground: Ground, kind: usize) -> Counts {
+pub(crate) fn planted(counts: Counts, ground: Ground, kind: usize) -> Counts {
     if kind <= compare::UNITS {
-        return compare::policy(
-            Counts::none(),
-            ground.policy,
-            altered(ground.skipping, kind),
-        );
+        return policy(counts, ground, kind);
     }
     if kind == compare::NAMED {
-        return named(ground);
+        return named(counts, ground);
     }
     if kind == compare::BOTH {
-        return both(ground);
+        return both(counts, ground, compare::VERDICT, compare::UNITS);
     }
     if kind == compare::NEED {
-        return compare::both(Counts::none(), ground.full, ground.skipping);
+        return both(counts, ground, compare::UNITS, compare::NAMED);
     }
     if kind == compare::ALLOWANCE {
-        return allowed(ground);
+        return allowed(counts, ground);
     }
-    compare::filling(compare::filling(Counts::none(), true, true), false, false)
+    filling(counts, ground)
 }

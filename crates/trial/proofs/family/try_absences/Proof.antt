@@ -5,10 +5,10 @@ use Rattle.trial.proofs.family.try_absences.Statement.{statement}
 use Rattle.trial.proofs.family.try_absences.Tie as tie
 
 abbrev Inv-loop : tie.InvT-loop
-Inv-loop duty asked known now₀ number₀ now number = number ≤ 64
+Inv-loop known duty asked now₀ number₀ now number = number ≤ 64
 
 abbrev μ-loop : tie.MeasureT-loop
-μ-loop duty asked known now₀ number₀ now number = 64 - number
+μ-loop known duty asked now₀ number₀ now number = 64 - number
 
 pub try-absences-spec : {M : Type 1} → statement M
 try-absences-spec =
@@ -17,9 +17,6 @@ try-absences-spec =
     Inv-loop
     μ-loop
     (λ c. search needs)
-    (λ c. search needs)
-    (λ c. search needs)
-    (λ c κs. search needs)
     (λ c κs. search needs)
     (λ c. search needs)
     (λ c. search needs)

@@ -5,10 +5,10 @@ use Rattle.trial.proofs.known.known_of.Statement.{statement}
 use Rattle.trial.proofs.known.known_of.Tie as tie
 
 abbrev Inv-loop : tie.InvT-loop
-Inv-loop duty ranks sets size₀ blocks₀ found₀ units₀ worth₀ number₀ size blocks found units worth number = number ≤ sets
+Inv-loop duty ranks sets facts₀ number₀ facts number = number ≤ 64
 
 abbrev μ-loop : tie.MeasureT-loop
-μ-loop duty ranks sets size₀ blocks₀ found₀ units₀ worth₀ number₀ size blocks found units worth number = sets - number
+μ-loop duty ranks sets facts₀ number₀ facts number = 64 - number
 
 pub known-of-spec : {M : Type 1} → statement M
 known-of-spec =
@@ -20,16 +20,7 @@ known-of-spec =
     (λ c κs. search needs)
     (λ c. search needs)
     (λ c κs. search needs)
-    (λ c κs. search needs)
-    (λ c κs. search needs)
     (λ c. search needs)
-    (λ c. search needs)
-    (λ c κs. search needs)
-    (λ c. search needs)
-    (λ c. search needs)
-    (λ c. search needs)
-    (λ c. search needs)
-    (λ c κs. search needs)
     (λ c. search needs)
     (λ c. search needs)
     (λ c. search needs)

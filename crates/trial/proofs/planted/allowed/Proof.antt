@@ -5,10 +5,10 @@ use Rattle.trial.proofs.planted.allowed.Statement.{statement}
 use Rattle.trial.proofs.planted.allowed.Tie as tie
 
 abbrev Inv-loop : tie.InvT-loop
-Inv-loop ground counts₀ part₀ counts part = part ≤ 4
+Inv-loop question wanted reply now₀ part₀ now part = part ≤ 4
 
 abbrev μ-loop : tie.MeasureT-loop
-μ-loop ground counts₀ part₀ counts part = 4 - part
+μ-loop question wanted reply now₀ part₀ now part = 4 - part
 
 pub allowed-spec : {M : Type 1} → statement M
 allowed-spec =
@@ -18,7 +18,10 @@ allowed-spec =
     μ-loop
     (λ c κs. search needs)
     (λ c κs. search needs)
+    (λ c κs. search needs)
+    (λ c κs. search needs)
     (λ c. search needs)
+    (λ c κs. search needs)
     (λ c κs. search needs)
     (λ c κs. search needs)
     (λ c. search needs)

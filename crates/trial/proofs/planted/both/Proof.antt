@@ -5,10 +5,10 @@ use Rattle.trial.proofs.planted.both.Statement.{statement}
 use Rattle.trial.proofs.planted.both.Tie as tie
 
 abbrev Inv-loop : tie.InvT-loop
-Inv-loop ground counts₀ part₀ counts part = part ≤ 3
+Inv-loop from to question reply now₀ part₀ now part = part ≤ 4
 
 abbrev μ-loop : tie.MeasureT-loop
-μ-loop ground counts₀ part₀ counts part = 3 - part
+μ-loop from to question reply now₀ part₀ now part = 4 - part
 
 pub both-spec : {M : Type 1} → statement M
 both-spec =
@@ -16,6 +16,8 @@ both-spec =
     (tie.spec
     Inv-loop
     μ-loop
+    (λ c κs. search needs)
+    (λ c κs. search needs)
     (λ c κs. search needs)
     (λ c. search needs)
     (λ c κs. search needs)

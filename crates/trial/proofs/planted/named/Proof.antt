@@ -5,10 +5,10 @@ use Rattle.trial.proofs.planted.named.Statement.{statement}
 use Rattle.trial.proofs.planted.named.Tie as tie
 
 abbrev Inv-loop : tie.InvT-loop
-Inv-loop ground counts₀ part₀ counts part = part ≤ 4
+Inv-loop question wanted reply now₀ part₀ now part = part ≤ 4
 
 abbrev μ-loop : tie.MeasureT-loop
-μ-loop ground counts₀ part₀ counts part = 4 - part
+μ-loop question wanted reply now₀ part₀ now part = 4 - part
 
 pub named-spec : {M : Type 1} → statement M
 named-spec =
@@ -16,6 +16,7 @@ named-spec =
     (tie.spec
     Inv-loop
     μ-loop
+    (λ c κs. search needs)
     (λ c κs. search needs)
     (λ c. search needs)
     (λ c κs. search needs)

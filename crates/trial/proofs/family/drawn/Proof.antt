@@ -1,24 +1,22 @@
 -- The loop ends: a turn for each that is left.
 use borrow.Author.Needs.{needs}
 use Prim.Native.Nat.{_≤_, _-_}
-use Rattle.trial.proofs.plain.ranks_of.Statement.{statement}
-use Rattle.trial.proofs.plain.ranks_of.Tie as tie
+use Rattle.trial.proofs.family.drawn.Statement.{statement}
+use Rattle.trial.proofs.family.drawn.Tie as tie
 
 abbrev Inv-loop : tie.InvT-loop
-Inv-loop ranks rows absent list₀ rank₀ list rank = rank ≤ 6
+Inv-loop index a₀ i₀ a i = i ≤ 6000
 
 abbrev μ-loop : tie.MeasureT-loop
-μ-loop ranks rows absent list₀ rank₀ list rank = 6 - rank
+μ-loop index a₀ i₀ a i = 6000 - i
 
-pub ranks-of-spec : {M : Type 1} → statement M
-ranks-of-spec =
+pub drawn-spec : {M : Type 1} → statement M
+drawn-spec =
     tie.close
     (tie.spec
     Inv-loop
     μ-loop
     (λ c. search needs)
-    (λ c κs. search needs)
-    (λ c κs. search needs)
     (λ c κs. search needs)
     (λ c. search needs)
     (λ c. search needs)

@@ -1,0 +1,99 @@
+// A question as the libraries are asked it.
+use roster::Reply;
+use roster::Table;
+
+// More than any need here.
+pub const AMPLE: u32 = 4294967295;
+
+// The ways to ask: either search, the two against each other, a named absence, and filling crews for one against trying everything.
+pub const SKIPPING: usize = 0;
+
+pub const FULL: usize = 1;
+
+pub const BOTH: usize = 2;
+
+pub const NAMED: usize = 3;
+
+pub const FILLING: usize = 4;
+
+// A duty as the libraries have it.
+pub struct Asked {
+    pub table: Table,
+    pub task: u32,
+    pub crews: usize,
+    pub size: u32,
+}
+
+// How many may be away counts for a policy, the absent rows for a named absence.
+pub struct Question {
+    pub way: usize,
+    pub asked: Asked,
+    pub away: u32,
+    pub absent: u64,
+    pub allowance: u32,
+}
+
+// The policy question.
+pub(crate) fn policy(asked: Asked, way: usize, away: u32) -> Question {
+    Question {
+        way: way,
+        asked: asked,
+        away: away,
+        absent: 0,
+        allowance: AMPLE,
+    }
+}
+
+// The question for a named absence.
+pub(crate) fn named(asked: Asked, way: usize, absent: u64) -> Question {
+    Question {
+        way: way,
+        asked: asked,
+        away: 0,
+        absent: absent,
+        allowance: AMPLE,
+    }
+}
+
+impl Question {
+    // The same within an allowance.
+    pub(crate) fn within(self, allowance: u32) -> Question {
+        let asked = self.asked;
+        Question {
+            way: self.way,
+            asked: asked,
+            away: self.away,
+            absent: self.absent,
+            allowance: allowance,
+        }
+    }
+
+    // What the libraries reply.
+    pub(crate) fn reply(self) -> Reply {
+        let asked = self.asked;
+        if self.way == SKIPPING {
+            return asked.skipping(self.away, self.allowance);
+        }
+        if self.way == FULL {
+            return asked.full(self.away, self.allowance);
+        }
+        asked.named(self.absent, self.allowance)
+    }
+}
+
+impl Asked {
+    fn skipping(self, away: u32, allowance: u32) -> Reply {
+        let table = self.table;
+        absences::ask_skipping(table, self.task, away, self.crews, self.size, allowance)
+    }
+
+    fn full(self, away: u32, allowance: u32) -> Reply {
+        let table = self.table;
+        absences::ask_full(table, self.task, away, self.crews, self.size, allowance)
+    }
+
+    fn named(self, absent: u64, allowance: u32) -> Reply {
+        let table = self.table;
+        crews::ask_named(table, self.task, self.crews, self.size, absent, allowance)
+    }
+}
