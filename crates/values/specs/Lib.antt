@@ -1,0 +1,5 @@
+-- which values are meant, and what writing them comes to
+pub mod Values
+pub mod Writing
+-- the theorems
+pub mod Laws
