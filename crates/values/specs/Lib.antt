@@ -3,3 +3,5 @@ pub mod Values
 pub mod Writing
 -- the theorems
 pub mod Laws
+-- what the crate's own functions answer
+pub mod Inner
