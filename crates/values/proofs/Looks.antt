@@ -23,7 +23,7 @@ use Rattle.book.specs.declared.Section.{Section}
 use Rattle.book.specs.declared.Section.the-variants.{Permissions, Rows, Policies}
 use Rattle.values.specs.Values.{contentsFor}
 use Rattle.values.specs.Writing.{valueLooks, sectionIn, firstOf, faultIn}
-use Rattle.values.specs.Inner.Looks.{limitIn, codeIn, rowIn, policyIn, priorTo, leadOf, staysAt, lookWith, sectionLooks, told}
+use Rattle.values.specs.Inner.Looks.{limitIn, Counted, codeIn, rowIn, policyIn, priorTo, leadOf, staysAt, lookWith, sectionLooks, told}
 use Rattle.values.specs.declared.Values.{Values}
 
 -- ---- one entry
@@ -133,6 +133,20 @@ unfolding firstOf
 append-sound [] m e = refl
 append-sound (x ∷ l) m e = look-on x l m (append-sound l m) e
 
+-- where there is none, there is none of any part
+sound-look : (x : Look) (l : List Look) → firstOf (x ∷ l) ≡ none → (x ≡ Sound) × (firstOf l ≡ none)
+unfolding firstOf
+sound-look Sound l e = (refl, e)
+sound-look (Faulty f) l e = let z : _≡_ {A = ℕ} 0 1 = cc in (cc, cc)
+
+sound-parts : (l m : List Look) → firstOf (l ++ m) ≡ none → (firstOf l ≡ none) × (firstOf m ≡ none)
+unfolding firstOf
+sound-parts [] m e = (refl, e)
+sound-parts (x ∷ l) m e =
+    let first = sound-look x (l ++ m) e in
+    let rest = sound-parts l m (first .1) in
+    (first-sound l (first .0) ∙ rest .0, rest .1)
+
 -- what is told says which it is
 pub told-faulty : {f : Fault} (o : Option Fault) → told o ≡ Faulty f → o ≡ some f
 told-faulty none e = let z : _≡_ {A = ℕ} 0 1 = cc in cc
@@ -169,3 +183,22 @@ pub count-within : (section : Section) (n : ℕ) → countLookIn section n ≡ S
 count-within Permissions n e = inside _ n (not-faulty _ _ _ e .0) .1
 count-within Rows n e = ltb-false _ _ (not-faulty _ _ _ e .0)
 count-within Policies n e = ltb-false _ _ (not-faulty _ _ _ e .0)
+
+-- what is told of a section's count, by what it is known to be
+pub count-told : {r t : Look} {n : ℕ} (section : Section) (m : ℕ) → r ≡ countLookIn section n → n ≡ m → r ≡ t → countLookIn section m ≡ t
+count-told section m e h w = ap (countLookIn section) (sym h) ∙ sym e ∙ w
+
+-- values without a fault have no more entries than there is room for
+pub sound-counted : (v : Values) → faultIn (contentsFor v) ≡ none → Counted v
+sound-counted v e = go
+  where
+    parts : (firstOf (sectionLooks v Permissions) ≡ none) × (firstOf (sectionLooks v Rows ++ sectionLooks v Policies) ≡ none)
+    parts = sound-parts (sectionLooks v Permissions) _ (sym (fault-by-sections v) ∙ e)
+
+    others : (firstOf (sectionLooks v Rows) ≡ none) × (firstOf (sectionLooks v Policies) ≡ none)
+    others = sound-parts (sectionLooks v Rows) _ (parts .1)
+
+    go : Counted v
+    go Permissions = count-within Permissions _ (sound-look _ _ (parts .0) .0)
+    go Rows = count-within Rows _ (sound-look _ _ (others .0) .0)
+    go Policies = count-within Policies _ (sound-look _ _ (others .1) .0)
