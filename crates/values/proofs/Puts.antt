@@ -27,6 +27,11 @@ pub little-last : (width i x : ℕ) → width ≤ i → littleEndian (width - i)
 unfolding littleEndian
 little-last width i x l = let e : width - i ≡ 0 = omega arith in ap (λ (w : ℕ). littleEndian w x) e
 
+-- a count that is a byte
+pub count-byte : (n : ℕ) → n < 256 → littleEndian 1 n ≡ n ∷ []
+unfolding littleEndian
+count-byte n l = let e : n % 256 ≡ n = omega arith in ap (λ (k : ℕ). k ∷ []) e
+
 -- ---- entries by index
 
 -- one more, and the others
