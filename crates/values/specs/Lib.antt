@@ -1,5 +1,7 @@
 -- which values are meant, and what writing them comes to
 pub mod Values
 pub mod Writing
+-- what the theorems say and assume
+pub mod Promises
 -- the theorems
 pub mod Laws
