@@ -1,24 +1,21 @@
--- The writer refuses what the reader would refuse of the layout. Assumes nothing.
-use mathlib.Core.Path.{_≡_, refl, sym, ap, _∙_, subst}
-use mathlib.Core.Bool.{Bool, true, false}
-use mathlib.Core.Option.{Option, some, none}
+-- "Refusals: 12 to 18 and 2 to 5 as in the reader, in reading order": what is looked at of values is what the reader looks at of their layout, so
+-- the fault is the same. Assumes nothing.
+use mathlib.Core.Path.{_≡_, refl, sym, ap, _∙_}
+use mathlib.Core.Bool.{Bool}
+use mathlib.Core.Option.{none, some}
 use mathlib.Core.List.{List, [], _∷_, _++_, map, append-assoc, append-nil}
-use Prim.Native.Nat.{ℕ, zero, suc, _+_, _*_, _^_, _≤_, _<_}
+use Prim.Native.Nat.{ℕ, _+_, _*_, _^_, _≤_, _<_}
 use native.Mathlib.Nat.{mul-suc}
 use native.Mathlib.Omega.{arith}
-use lib.Dec.{ltb}
 use lib.ListN.{length, drop, length-append}
 use borrow.Author.Tests.{le-ltb}
+use Rattle.roster.specs.declared.Policy.{Policy}
 use Rattle.book.specs.Layout.{Contents, Each, bytesOf, section, joined, codeWidths, codeFields, rowWidths, rowFields, policyWidths, policyFields}
-use Rattle.book.specs.Reading.{Kind, Found, faultIf, width, entryAt, prior, countLook, entryLook, inTurn, countAt, sectionLooks, past, listedIn, endLook, looks, looksFromRows, looksFromPolicies, codes, rows, policies, firstFault, startsOf, readOf}
-use Rattle.values.specs.Writing.{valueLooks, sectionIn, looksIn, firstOf, faultIn}
-use Rattle.values.specs.Promises.{Laidable, Narrow, faultOf}
-use Rattle.book.specs.Parts.{entriesAt, valuesAt}
-use Rattle.book.specs.Laws.Codec.{after, head-at, tail-at, fields-length, fields-read}
-use Rattle.book.specs.Laws.Sections.{Codec, bytesFor, Fits, joined-length, Stands, section-read}
-use Rattle.book.specs.Laws.Values.{code-codec, row-codec, policy-codec}
+use Rattle.book.specs.Reading.{Kind, Found, faultIf, width, entryAt, prior, countLook, entryLook, inTurn, sectionLooks, past, listedIn, endLook, looks, looksFromRows, looksFromPolicies, codes, rows, policies, firstFault, startsOf, readOf}
+use Rattle.book.specs.Laws.Codec.{Fit, after, head-at, tail-at, fields-length, fields-read}
+use Rattle.book.specs.Laws.Sections.{Codec, bytesFor, Fits, joined-length, section-read}
+use Rattle.book.specs.Laws.Values.{code-codec, row-codec, policy-codec, each, each-both, code-fits, row-fits}
 use Rattle.book.specs.Laws.Books.{rowsAt, policiesAt}
-use Rattle.book.specs.declared.Fault.{Fault}
 use Rattle.book.specs.declared.Fault.the-variants as fault
 use Rattle.book.specs.declared.Look.{Look}
 use Rattle.book.specs.declared.Look.the-variants.{Sound, Faulty}
@@ -26,16 +23,20 @@ use Rattle.book.specs.declared.Before.{Before}
 use Rattle.book.specs.declared.Before.the-variants.{Nothing, Entry}
 use Rattle.book.specs.declared.Reading.{Reading}
 use Rattle.book.specs.declared.Reading.the-variants as read
+use Rattle.values.specs.Writing.{valueLooks, sectionIn, looksIn, firstOf, faultIn}
+use Rattle.values.specs.Promises.{Narrow, Laidable, faultOf}
 
 -- the looks without their places
 abbrev pub look : Found → Look
 look x = x .look
 
--- values that have a layout: each fits its fields, and each count its byte
-pub record Laidable (v : Contents) : Type 0 where
-  pub codes : Each (Fits codes codeFields code-codec) (v .codes)
-  pub rows : Each (Fits rows rowFields row-codec) (v .rows)
-  pub policies : Each (Fits policies policyFields policy-codec) (v .policies)
+-- ---- values that have a layout fit their fields
+
+policy-goes : (p : Policy) → (p .task < 2 ^ 32) × Narrow p → Fits policies policyFields policy-codec p
+unfolding Fit
+policy-goes p h = (h .0, (omega (arith, h .1 .0), (omega (arith, h .1 .1), (omega (arith, h .1 .2), tt))))
+
+-- ---- what is looked at
 
 module _ {A : Type 0} (kind : Kind A) (fields : A → List ℕ) (codec : Codec kind fields) (listed : ℕ) where
   -- what is looked at of entries that stand in a book is what is looked at of their values
@@ -80,20 +81,23 @@ pub layout-looks : (v : Contents) → Laidable v → map look (looks (bytesOf v)
 unfolding bytesOf
 layout-looks v f =
     let book = bytesOf v in
+    let codesFit = each code-fits (v .codes) (f .typed .codes) in
+    let rowsFit = each (row-fits 32 (omega arith)) (v .rows) (f .typed .rows) in
+    let policiesFit = each policy-goes (v .policies) (each-both _ _ (v .policies) (f .typed .tasks) (f .narrow)) in
     let sec1 = section codeWidths codeFields (v .codes) in
     let sec2 = section rowWidths rowFields (v .rows) in
     let sec3 = section policyWidths policyFields (v .policies) in
-    let one = section-read codes codeFields code-codec (v .codes) book 0 (sec2 ++ sec3) (f .codes) refl in
-    let two = section-read rows rowFields row-codec (v .rows) book (rowsAt book) sec3 (f .rows) (one .left) in
-    let three = section-read policies policyFields policy-codec (v .policies) book (policiesAt book) [] (f .policies) (two .left ∙ sym (append-nil sec3)) in
+    let one = section-read codes codeFields code-codec (v .codes) book 0 (sec2 ++ sec3) codesFit refl in
+    let two = section-read rows rowFields row-codec (v .rows) book (rowsAt book) sec3 rowsFit (one .left) in
+    let three = section-read policies policyFields policy-codec (v .policies) book (policiesAt book) [] policiesFit (two .left ∙ sym (append-nil sec3)) in
     let long : length book ≡ length sec1 + (length sec2 + length sec3) =
     length-append sec1 (sec2 ++ sec3) ∙ ap (λ (n : ℕ). length sec1 + n) (length-append sec2 sec3) in
     let end1 = one .ends in
     let end2 = two .ends in
     let end3 = three .ends in
-    let look1 = section-looks codes codeFields code-codec 0 (v .codes) book 0 (sec2 ++ sec3) (f .codes) refl (omega arith) in
-    let look2 = section-looks rows rowFields row-codec (listedIn book) (v .rows) book (rowsAt book) sec3 (f .rows) (one .left) (omega arith) in
-    let look3 = section-looks policies policyFields policy-codec (listedIn book) (v .policies) book (policiesAt book) [] (f .policies) (two .left ∙ sym (append-nil sec3)) (omega arith) in
+    let look1 = section-looks codes codeFields code-codec 0 (v .codes) book 0 (sec2 ++ sec3) codesFit refl (omega arith) in
+    let look2 = section-looks rows rowFields row-codec (listedIn book) (v .rows) book (rowsAt book) sec3 rowsFit (one .left) (omega arith) in
+    let look3 = section-looks policies policyFields policy-codec (listedIn book) (v .policies) book (policiesAt book) [] policiesFit (two .left ∙ sym (append-nil sec3)) (omega arith) in
     let end = le-ltb (past policies book (policiesAt book)) (length book) (omega arith) in
     map-append look (sectionLooks codes book 0 0) (looksFromRows book (rowsAt book))
     ∙ joins look1 (
@@ -113,11 +117,6 @@ first-none [] = refl
 first-none (Sound ∷ l) = first-none l
 first-none (Faulty f ∷ l) = refl
 
--- what is replied, without the place and the starts
-abbrev pub faultOf : Reading → Option Fault
-faultOf (read.Good starts) = none
-faultOf (read.Refused f at) = some f
-
 fault-by : (good : Reading) → faultOf good ≡ none → (l : List Found) → faultOf (firstFault read.Refused good l) ≡ firstOf (map look l)
 unfolding firstFault firstOf
 fault-by good g [] = g
@@ -129,7 +128,7 @@ fault-by good g (x ∷ l) = go (x .look) (fault-by good g l)
     go (Faulty f) ih = refl
 
 -- "12 to 18 and 2 to 5 as in the reader, in reading order": the first fault of the values is the one that the reader finds in their layout
-pub as-in-the-reader : (v : Contents) → Laidable v → faultOf (readOf (bytesOf v)) ≡ firstOf (looksIn v)
+pub as-in-the-reader : (v : Contents) → Laidable v → faultOf (readOf (bytesOf v)) ≡ faultIn v
 unfolding readOf
 as-in-the-reader v f =
     fault-by (read.Good (startsOf (bytesOf v))) refl (looks (bytesOf v)) ∙ ap firstOf (layout-looks v f) ∙ first-none (looksIn v)
