@@ -1,2 +1,4 @@
 pub mod Counted
 pub mod Reader
+pub mod First
+pub mod Admitted
