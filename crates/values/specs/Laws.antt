@@ -2,3 +2,4 @@ pub mod Counted
 pub mod Reader
 pub mod First
 pub mod Admitted
+pub mod Outcome
