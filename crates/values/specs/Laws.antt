@@ -3,3 +3,6 @@ pub mod Reader
 pub mod First
 pub mod Admitted
 pub mod Outcome
+pub mod OfBook
+pub mod Policies
+pub mod Numbers
