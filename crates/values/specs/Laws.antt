@@ -1,8 +1,11 @@
+-- what is promised
 pub mod Counted
 pub mod Reader
-pub mod First
+pub mod Wide
 pub mod Admitted
 pub mod Outcome
 pub mod OfBook
-pub mod Policies
 pub mod Numbers
+-- what that stands on
+pub mod First
+pub mod Policies
