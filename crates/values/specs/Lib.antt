@@ -3,5 +3,7 @@ pub mod Values
 pub mod Writing
 -- what the theorems say and assume
 pub mod Promises
+-- examples, computed
+pub mod Examples
 -- the theorems
 pub mod Laws

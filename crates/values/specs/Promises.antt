@@ -9,14 +9,15 @@
 -- every input has one reply, and one buffer after it: `writes-allowed`, `writes-same`
 use mathlib.Core.Option.{Option, some, none}
 use mathlib.Core.Logic.{_⊎_}
+use mathlib.Core.Bool.{Bool, true, false}
 use mathlib.Core.Path.{_≡_}
 use mathlib.Core.List.{List, [], _∷_, _++_}
 use Prim.Native.Nat.{ℕ, _^_, _≤_, _<_}
 use lib.Dec.{eqb, ltb}
-use lib.ListN.{length}
+use lib.ListN.{length, drop}
 use Rattle.roster.specs.declared.Policy.{Policy}
 use Rattle.roster.specs.declared.Refusal.the-variants as refusal
-use Rattle.book.specs.Layout.{Contents, Each}
+use Rattle.book.specs.Layout.{Contents, bytesOf, Each}
 use Rattle.book.specs.Reading.{codes, rows, policies, faultIf, pastListed}
 use Rattle.book.specs.declared.Fault.{Fault}
 use Rattle.book.specs.declared.Fault.the-variants as fault
@@ -24,7 +25,12 @@ use Rattle.book.specs.declared.Look.{Look}
 use Rattle.book.specs.declared.Look.the-variants.{Sound}
 use Rattle.book.specs.declared.Reading.{Reading}
 use Rattle.book.specs.declared.Reading.the-variants.{Good, Refused}
-use Rattle.values.specs.Writing.{valueLooks, sectionIn}
+use Rattle.values.specs.Writing.{valueLooks, sectionIn, faultIn}
+use Rattle.values.specs.declared.Unwritten.the-variants as unwritten
+use Rattle.values.specs.declared.Wrote.{Wrote}
+use Rattle.values.specs.declared.Wrote.the-variants as wrote
+
+-- ---- values
 
 -- what the types say: a code is a `u16`; staff number, holdings and P are each a `u32`
 pub record Typed (v : Contents) : Type 0 where
@@ -44,6 +50,23 @@ Wide p = (256 ≤ p .away) ⊎ ((256 ≤ p .crews) ⊎ (256 ≤ p .size))
 pub record Laidable (v : Contents) : Type 0 where
   pub typed : Typed v
   pub narrow : Each Narrow (v .policies)
+
+-- ---- the outcome of writing, computed; that it is the one that `Writes` allows is `writes-allowed`
+
+-- the reply, and the buffer after it
+pub record Outcome : Type 0 where
+  pub reply : Wrote
+  pub after : List ℕ
+
+abbrev pub outcomeBy : Option Fault → Bool → List ℕ → List ℕ → Outcome
+outcomeBy (some f) short book old = record { reply = wrote.Refused (unwritten.Fault f) 0; after = old }
+outcomeBy none true book old = record { reply = wrote.Refused unwritten.Room 0; after = old }
+outcomeBy none false book old = record { reply = wrote.Written (length book); after = book ++ drop (length book) old }
+
+abbrev pub outcomeOf : Contents → List ℕ → Outcome
+outcomeOf v old = outcomeBy (faultIn v) (ltb (length old) (length (bytesOf v))) (bytesOf v) old
+
+-- ---- which refusals
 
 -- the fault that the reader tells, without its place
 abbrev pub faultOf : Reading → Option Fault

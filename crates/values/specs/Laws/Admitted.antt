@@ -3,7 +3,7 @@ use mathlib.Core.Path.{_≡_, refl, sym, ap, _∙_}
 use mathlib.Core.Bool.{false}
 use mathlib.Core.Logic.{_↔_}
 use mathlib.Core.Option.{some, none}
-use mathlib.Core.List.{List, [], _∷_, _++_}
+use mathlib.Core.List.{List, _++_}
 use Prim.Native.Nat.{ℕ, _^_, _≤_, _<_}
 use native.Mathlib.Nat.{lt-of-lt-of-le}
 use native.Mathlib.Omega.{arith}
@@ -12,14 +12,14 @@ use lib.ListN.{length}
 use borrow.Author.Tests.{ltb-false}
 use Rattle.roster.specs.Laws.Rulings.{inside, policy-within}
 use Rattle.roster.specs.declared.Policy.{Policy}
-use Rattle.book.specs.Layout.{Contents, permissionLimit, codeFields, rowFields, policyFields, bytesOf, Each, PolicyFits, Admitted}
+use Rattle.book.specs.Layout.{Contents, permissionLimit, codeFields, rowFields, policyFields, bytesOf, PolicyFits, Admitted}
 use Rattle.book.specs.Reading.{Kind, codes, rows, policies}
 use Rattle.book.specs.Laws.First.{not-faulty}
 use Rattle.book.specs.Laws.Sections.{Codec, Faultless}
 use Rattle.book.specs.Laws.Values.{code-codec, row-codec, policy-codec, each, each-both, codes-sound, rows-sound, policies-sound}
 use Rattle.book.specs.Laws.Books.{layout-good}
 use Rattle.book.specs.declared.Row.{Row}
-use Rattle.values.specs.Writing.{valueLooks, sectionIn, looksIn, firstOf, faultIn}
+use Rattle.values.specs.Writing.{valueLooks, sectionIn, firstOf, faultIn}
 use Rattle.values.specs.Promises.{Typed, Narrow, Laidable, faultOf}
 use Rattle.values.specs.Laws.First.{first-append, neither, none-head, none-faultless}
 use Rattle.values.specs.Laws.Reader.{as-in-the-reader}

@@ -5,7 +5,6 @@ use mathlib.Core.Option.{Option, some, none}
 use mathlib.Core.List.{List, [], _∷_, _++_}
 use Prim.Native.Nat.{ℕ}
 use native.Mathlib.Omega.{arith}
-use Rattle.book.specs.Layout.{Each}
 use Rattle.book.specs.Reading.{Kind}
 use Rattle.book.specs.Laws.Sections.{Codec, Faultless}
 use Rattle.book.specs.declared.Fault.{Fault}

@@ -1,7 +1,7 @@
 -- Which numbers values are refused with: 2 to 5, 12 to 18 and 20, always with place 0; 11 and 19, by which the reader tells that a book ends too
 -- soon or goes on too long, never come. Assumes nothing.
-use mathlib.Core.Path.{_≡_, refl, sym, ap, subst}
-use mathlib.Core.Logic.{_⊎_, inl, inr}
+use mathlib.Core.Path.{_≡_, sym, ap, subst}
+use mathlib.Core.Logic.{inl, inr}
 use mathlib.Core.Bool.{Bool, true, false}
 use mathlib.Core.Option.{Option, some, none}
 use mathlib.Core.List.{List, [], _∷_, _++_}
@@ -11,12 +11,11 @@ use lib.Dec.{eqb}
 use lib.ListN.{length}
 use Rattle.roster.specs.Refusals.{ownRuling, madeBy, made, numberOf}
 use Rattle.roster.specs.declared.Policy.{Policy}
-use Rattle.roster.specs.declared.Refusal.{Refusal}
 use Rattle.roster.specs.declared.Ruling.{Ruling}
 use Rattle.roster.specs.declared.Ruling.the-variants as ruling
 use Rattle.book.specs.Layout.{Contents}
 use Rattle.book.specs.Faults.{faultNumber}
-use Rattle.book.specs.Reading.{Kind, faultIf, notAbove, pastListed, staffOf, rowLook, byMade, codes, rows, policies}
+use Rattle.book.specs.Reading.{Kind, faultIf, notAbove, pastListed, staffOf, byMade, codes, rows, policies}
 use Rattle.book.specs.declared.Fault.{Fault}
 use Rattle.book.specs.declared.Fault.the-variants as fault
 use Rattle.book.specs.declared.Look.{Look}
@@ -25,7 +24,7 @@ use Rattle.book.specs.declared.Row.{Row}
 use Rattle.values.specs.Writing.{unwrittenNumber, valueLooks, sectionIn, firstOf, faultIn, Writes}
 use Rattle.values.specs.Promises.{FaultNumber, WriterNumber}
 use Rattle.values.specs.Laws.First.{orElse, first-append}
-use Rattle.values.specs.Laws.Outcome.{Faulted, Short, Fitting, outcome}
+use Rattle.values.specs.Laws.Outcome.{Which, which}
 use Rattle.values.specs.Laws.Policies.{MayRule, own-ruling}
 use Rattle.values.specs.declared.Unwritten.{Unwritten}
 use Rattle.values.specs.declared.Unwritten.the-variants as unwritten
@@ -106,9 +105,9 @@ fault-number v f e =
 -- values are refused with one of 2 to 5, of 12 to 18, or 20, and with place 0
 pub numbers : (v : Contents) (old new : List ℕ) (u : Unwritten) (at : ℕ) → Writes v old new (Refused u at)
     → WriterNumber (unwrittenNumber u) × (at ≡ 0)
-numbers v old new u at w = go (outcome v old)
+numbers v old new u at w = go (which v old)
   where
-    go : Faulted v ⊎ (Short v old ⊎ Fitting v old) → WriterNumber (unwrittenNumber u) × (at ≡ 0)
+    go : Which v old → WriterNumber (unwrittenNumber u) × (at ≡ 0)
     go (inl h) =
         let e = w .faulty (h .fault) (h .told) .0 in
         let same : u ≡ unwritten.Fault (h .fault) = cc in

@@ -1,7 +1,7 @@
 -- "reading any good book and writing it gives the same bytes". Assumes nothing.
 use mathlib.Core.Path.{_≡_, refl, sym, ap, _∙_, subst}
 use mathlib.Core.List.{List, [], _∷_, _++_}
-use Prim.Native.Nat.{ℕ, zero, suc, _≤_, _<_}
+use Prim.Native.Nat.{ℕ, zero, suc, _≤_}
 use native.Mathlib.Omega.{arith}
 use lib.ListN.{length, getD, drop}
 use Rattle.sets.specs.Arrays.{tabulate}
@@ -10,7 +10,7 @@ use Rattle.roster.specs.declared.Policy.{Policy}
 use Rattle.book.specs.Layout.{Contents, permissionLimit, policyLimit, bytesOf, Admitted}
 use Rattle.book.specs.Reading.{readOf}
 use Rattle.book.specs.Parts.{contentsOf}
-use Rattle.book.specs.Promises.{Bytes, nothing}
+use Rattle.book.specs.Promises.{Bytes}
 use Rattle.book.specs.Laws.Books.{good-layout}
 use Rattle.book.specs.declared.Fault.{Fault}
 use Rattle.book.specs.declared.Reading.the-variants as read

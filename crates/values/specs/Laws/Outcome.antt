@@ -3,13 +3,16 @@
 use mathlib.Core.Path.{_≡_, refl, sym, ap, _∙_}
 use mathlib.Core.Logic.{_⊎_, inl, inr}
 use mathlib.Core.Option.{Option, some, none}
-use mathlib.Core.List.{List, [], _∷_, _++_}
+use mathlib.Core.Bool.{Bool}
+use mathlib.Core.List.{List}
 use Prim.Native.Nat.{ℕ, _+_, _*_, _≤_, _<_}
 use native.Mathlib.Decide.{decLt}
 use native.Mathlib.Omega.{arith}
+use lib.Dec.{ltb}
 use lib.ListN.{length, take, drop}
 use lib.Seq.{take-append-seam}
-use Rattle.book.specs.Layout.{Contents, bytesOf, Admitted, LayoutOf}
+use borrow.Author.Tests.{lt-ltb, le-ltb}
+use Rattle.book.specs.Layout.{Contents, bytesOf, LayoutOf}
 use Rattle.book.specs.Reading.{readOf}
 use Rattle.book.specs.Parts.{contentsOf}
 use Rattle.book.specs.Promises.{Bytes, startsFor}
@@ -19,7 +22,7 @@ use Rattle.book.specs.declared.Fault.{Fault}
 use Rattle.book.specs.declared.Reading.the-variants as read
 use Rattle.book.specs.declared.Starts.{Starts}
 use Rattle.values.specs.Writing.{faultIn, Writes}
-use Rattle.values.specs.Promises.{Typed}
+use Rattle.values.specs.Promises.{Typed, Outcome, outcomeBy, outcomeOf}
 use Rattle.values.specs.Laws.Admitted.{sound-iff-admitted}
 use Rattle.values.specs.declared.Unwritten.the-variants as unwritten
 use Rattle.values.specs.declared.Wrote.{Wrote}
@@ -40,59 +43,40 @@ pub record Fitting (v : Contents) (old : List ℕ) : Type 0 where
   pub sound : faultIn v ≡ none
   pub room : length (bytesOf v) ≤ length old
 
-pub outcome : (v : Contents) (old : List ℕ) → Faulted v ⊎ (Short v old ⊎ Fitting v old)
-outcome v old = go (faultIn v) refl (decLt (length old) (length (bytesOf v)))
+abbrev pub Which : Contents → List ℕ → Type 0
+Which v old = Faulted v ⊎ (Short v old ⊎ Fitting v old)
+
+pub which : (v : Contents) (old : List ℕ) → Which v old
+which v old = go (faultIn v) refl (decLt (length old) (length (bytesOf v)))
   where
-    go : (f : Option Fault) → faultIn v ≡ f → Dec (length old < length (bytesOf v)) → Faulted v ⊎ (Short v old ⊎ Fitting v old)
+    go : (f : Option Fault) → faultIn v ≡ f → Dec (length old < length (bytesOf v)) → Which v old
     go (some f) e d = inl record { fault = f; told = e }
     go none e (yes l) = inr (inl record { sound = e; short = l })
     go none e (no n) = inr (inr record { sound = e; room = omega arith })
 
--- a fault and none at once
-both : {f : Fault} {o : Option Fault} → o ≡ some f → o ≡ none → ⊥
-both e h = let z : _≡_ {A = ℕ} 0 1 = cc in omega arith
+-- what an outcome is
+parts : {o : Outcome} {r : Wrote} {new : List ℕ} → o ≡ record { reply = r; after = new } → (o .reply ≡ r) × (o .after ≡ new)
+parts e = (ap (λ (o : Outcome). o .reply) e, ap (λ (o : Outcome). o .after) e)
 
-same-fault : {f g : Fault} {o : Option Fault} → o ≡ some f → o ≡ some g → f ≡ g
-same-fault e h = cc
-
--- every values and buffer have an outcome that is allowed
-pub writes-allowed : (v : Contents) (old : List ℕ) → (new : List ℕ) × (r : Wrote) × Writes v old new r
-writes-allowed v old = go (outcome v old)
+-- any values and buffer have an outcome that is allowed
+pub writes-allowed : (v : Contents) (old : List ℕ) → Writes v old (outcomeOf v old .after) (outcomeOf v old .reply)
+writes-allowed v old = record {
+  faulty = λ f e. parts (by-fault e);
+  short = λ e l. parts (by-fault e ∙ by-room (lt-ltb (length old) (length (bytesOf v)) l));
+  written = λ e l. parts (by-fault e ∙ by-room (le-ltb (length old) (length (bytesOf v)) l));
+}
   where
-    go : Faulted v ⊎ (Short v old ⊎ Fitting v old) → (new : List ℕ) × (r : Wrote) × Writes v old new r
-    go (inl h) = (
-      old,
-      Refused (unwritten.Fault (h .fault)) 0,
-      record {
-        faulty = λ f e. (ap (λ (x : Fault). Refused (unwritten.Fault x) 0) (same-fault (h .told) e), refl);
-        short = λ e l. absurd (both (h .told) e);
-        written = λ e l. absurd (both (h .told) e);
-      },
-    )
-    go (inr (inl h)) = (
-      old,
-      Refused unwritten.Room 0,
-      record {
-        faulty = λ f e. absurd (both e (h .sound));
-        short = λ e l. (refl, refl);
-        written = λ e l. absurd (omega (arith, h .short));
-      },
-    )
-    go (inr (inr h)) = (
-      bytesOf v ++ drop (length (bytesOf v)) old,
-      Written (length (bytesOf v)),
-      record {
-        faulty = λ f e. absurd (both e (h .sound));
-        short = λ e l. absurd (omega (arith, h .room));
-        written = λ e l. (refl, refl);
-      },
-    )
+    by-fault : {o : Option Fault} → faultIn v ≡ o → outcomeOf v old ≡ outcomeBy o (ltb (length old) (length (bytesOf v))) (bytesOf v) old
+    by-fault e = ap (λ (o : Option Fault). outcomeBy o (ltb (length old) (length (bytesOf v))) (bytesOf v) old) e
+
+    by-room : {b c : Bool} → b ≡ c → outcomeBy none b (bytesOf v) old ≡ outcomeBy none c (bytesOf v) old
+    by-room e = ap (λ (b : Bool). outcomeBy none b (bytesOf v) old) e
 
 -- and only one
 pub writes-same : (v : Contents) (old new new′ : List ℕ) (r r′ : Wrote) → Writes v old new r → Writes v old new′ r′ → (r ≡ r′) × (new ≡ new′)
-writes-same v old new new′ r r′ w w′ = go (outcome v old)
+writes-same v old new new′ r r′ w w′ = go (which v old)
   where
-    go : Faulted v ⊎ (Short v old ⊎ Fitting v old) → (r ≡ r′) × (new ≡ new′)
+    go : Which v old → (r ≡ r′) × (new ≡ new′)
     go (inl h) =
         let a = w .faulty (h .fault) (h .told) in
         let b = w′ .faulty (h .fault) (h .told) in
@@ -115,9 +99,9 @@ pub record IsWritten (v : Contents) (new : List ℕ) (n : ℕ) : Type 0 where
   pub front : take n new ≡ bytesOf v
 
 pub is-written : (v : Contents) (old new : List ℕ) (n : ℕ) → Writes v old new (Written n) → IsWritten v new n
-is-written v old new n w = go (outcome v old)
+is-written v old new n w = go (which v old)
   where
-    go : Faulted v ⊎ (Short v old ⊎ Fitting v old) → IsWritten v new n
+    go : Which v old → IsWritten v new n
     go (inl h) = let e = w .faulty (h .fault) (h .told) .0 in let z : _≡_ {A = ℕ} 0 1 = cc in absurd (omega arith)
     go (inr (inl h)) = let e = w .short (h .sound) (h .short) .0 in let z : _≡_ {A = ℕ} 0 1 = cc in absurd (omega arith)
     go (inr (inr h)) =
@@ -160,9 +144,9 @@ length-is v old new n t w =
 
 -- 803 bytes always suffice
 pub longest-enough : (v : Contents) (old new : List ℕ) (at : ℕ) → Typed v → 803 ≤ length old → Writes v old new (Refused unwritten.Room at) → ⊥
-longest-enough v old new at t long w = go (outcome v old)
+longest-enough v old new at t long w = go (which v old)
   where
-    go : Faulted v ⊎ (Short v old ⊎ Fitting v old) → ⊥
+    go : Which v old → ⊥
     go (inl h) = let e = w .faulty (h .fault) (h .told) .0 in let z : _≡_ {A = ℕ} 0 1 = cc in omega arith
     go (inr (inl h)) =
         let l : LayoutOf v (bytesOf v) = record { admitted = sound-iff-admitted v t .0 (h .sound); bytes = refl } in

@@ -1,8 +1,8 @@
 -- What is refused of a policy by itself: 2 exactly where P is zero, and else 3, 4 or 5, always if s, d or t is past its byte. Assumes nothing.
-use mathlib.Core.Path.{_≡_, refl, subst}
+use mathlib.Core.Path.{_≡_, refl}
 use mathlib.Core.Logic.{inl, inr}
 use mathlib.Core.Bool.{Bool, true, false}
-use Prim.Native.Nat.{ℕ, _≤_}
+use Prim.Native.Nat.{_≤_}
 use native.Mathlib.Omega.{arith}
 use lib.Dec.{eqb, ltb}
 use Rattle.roster.specs.Limits.{awayLimit, crewLimit, sizeLimit}

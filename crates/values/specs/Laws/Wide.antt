@@ -1,6 +1,6 @@
 -- s, d or t that do not go into their byte: the layout could not say them, and the fault is 3, 4 or 5 of that policy or an earlier one. Assumes
 -- nothing.
-use mathlib.Core.Path.{_≡_, refl, sym, ap, _∙_}
+use mathlib.Core.Path.{_≡_, refl, ap, _∙_}
 use mathlib.Core.Logic.{_⊎_, inl, inr}
 use mathlib.Core.Bool.{Bool, true, false}
 use mathlib.Core.Option.{Option, some, none}
@@ -9,7 +9,7 @@ use Prim.Native.Nat.{ℕ, _≤_}
 use native.Mathlib.Omega.{arith}
 use lib.Dec.{eqb}
 use lib.ListN.{length}
-use Rattle.roster.specs.Refusals.{numberOf, ownRuling, madeBy}
+use Rattle.roster.specs.Refusals.{ownRuling, madeBy}
 use Rattle.roster.specs.declared.Policy.{Policy}
 use Rattle.roster.specs.declared.Refusal.{Refusal}
 use Rattle.roster.specs.declared.Refusal.the-variants as refusal
