@@ -1,5 +1,5 @@
 -- what is promised
-pub mod Counted
+pub mod Meant
 pub mod Reader
 pub mod Wide
 pub mod Admitted
