@@ -7,3 +7,5 @@ pub mod Promises
 pub mod Examples
 -- the theorems
 pub mod Laws
+-- what the crate's own functions answer
+pub mod Inner

@@ -46,6 +46,10 @@ firstOf (x ∷ l) = elim x [ Sound ↦ firstOf l | Faulty f ↦ some f ]
 abbrev pub faultIn : Contents → Option Fault
 faultIn v = firstOf (looksIn v)
 
+-- "The longest book is 803 bytes": the constant `LONGEST`. A buffer that is as long is never too short (`longest-enough`).
+abbrev pub longest : ℕ
+longest = 803
+
 -- ---- what may be replied, and what the buffer then holds
 
 -- "It writes exactly the one book ..., answers its length"; "Bytes past the book stay as they were, and a refusal writes nothing"; "with place 0"

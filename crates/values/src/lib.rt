@@ -1,13 +1,21 @@
 // The values of a book, all at once: read from it, changed by whoever likes, and written as a book again. specs/Values says which values are
 // meant, specs/Writing what is refused and what is written.
+mod look;
+mod put;
+
 use book::Fault;
+use book::Look;
 use book::PERMISSIONS;
 use book::POLICIES;
 use book::Row;
+use book::Section;
+use look::first_fault;
+use put::length_of;
+use put::put_section;
 use roster::Policy;
 ghost use mathlib.Core.Path.{_≡_};
-ghost use Rattle.values.specs.Values.{noValues};
-ghost use Rattle.values.specs.Writing.{unwrittenNumber};
+ghost use Rattle.values.specs.Values.{contentsFor, noValues};
+ghost use Rattle.values.specs.Writing.{longest, unwrittenNumber, Writes};
 
 // So many bytes hold any book.
 pub const LONGEST: usize = 803;
@@ -72,4 +80,25 @@ impl Values {
             policy_count: 0,
         }
     }
+}
+
+// ---- writing
+
+// The book of these values at the front of a buffer, and its length. What is refused leaves the buffer as it was.
+pub fn write(values: Values, out: &mut [u8]) -> Wrote
+    ensures written { λ r. ⌜ Writes (contentsFor values) (now (out .entry)) (now (out .exit)) r ⌝ }
+    ensures limit { λ _. do ⌜ (← ⟦LONGEST⟧ .entry) ≡ longest ⌝ }
+{
+    match first_fault(values) {
+        Look::Faulty(fault) => {
+            return Wrote::Refused(Unwritten::Fault(fault), 0);
+        }
+        Look::Sound => {}
+    }
+    if out.len() < length_of(values) {
+        return Wrote::Refused(Unwritten::Room, 0);
+    }
+    let rows = put_section(out, 0, values, Section::Permissions);
+    let policies = put_section(out, rows, values, Section::Rows);
+    Wrote::Written(put_section(out, policies, values, Section::Policies))
 }
