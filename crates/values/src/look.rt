@@ -1,5 +1,6 @@
 // What is amiss with values, in reading order: a section's count, then its entries, each beside the one before. specs/Inner/Looks says what
 // each function answers.
+use crate::Values;
 use book::Fault;
 use book::Look;
 use book::Row;
@@ -7,7 +8,6 @@ use book::Section;
 use book::sections::count_look;
 use book::sections::past_listed;
 use book::sections::row_look;
-use crate::Values;
 use roster::Made;
 use roster::Policy;
 ghost use mathlib.Core.Path.{_≡_};

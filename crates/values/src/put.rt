@@ -1,11 +1,11 @@
 // The bytes of values, appended at a place of a lent buffer. specs/Inner/Puts says what each function appends.
-use book::Row;
-use book::Section;
 use crate::Values;
 use crate::look::code_in;
 use crate::look::count_of;
 use crate::look::policy_in;
 use crate::look::row_in;
+use book::Row;
+use book::Section;
 use roster::Policy;
 use text::put;
 ghost use mathlib.Core.Path.{_≡_};

@@ -13,12 +13,12 @@ use Rattle.values.specs.Values.{nobody, unasked, contentsFor, valuesFor,
 use Rattle.values.specs.Promises.{Typed}
 use Rattle.values.specs.declared.Values.{Values}
 
-pub record Counted (v : Values) : Type 0 where
+pub record AsCounted (v : Values) : Type 0 where
   pub codes : length (contentsFor v .codes) ≡ v .«code_count»
   pub rows : length (contentsFor v .rows) ≡ v .«row_count»
   pub policies : length (contentsFor v .policies) ≡ v .«policy_count»
 
-pub counted : (v : Values) → Counted v
+pub counted : (v : Values) → AsCounted v
 unfolding contentsFor
 counted v = record {
   codes = length-tabulate (v .«code_count») (λ i. getD (v .codes) i 0);

@@ -9,7 +9,7 @@ use Prim.Native.Nat.{ℕ, _+_, _*_, _≤_, _<_}
 use native.Mathlib.Decide.{decLt}
 use native.Mathlib.Omega.{arith}
 use lib.Dec.{ltb}
-use lib.ListN.{length, take, drop}
+use lib.ListN.{length, take, drop, length-append, length-drop}
 use lib.Seq.{take-append-seam}
 use borrow.Author.Tests.{lt-ltb, le-ltb}
 use Rattle.book.specs.Layout.{Contents, bytesOf, LayoutOf}
@@ -21,7 +21,7 @@ use Rattle.book.specs.Laws.Longest.{layout-length, good-short}
 use Rattle.book.specs.declared.Fault.{Fault}
 use Rattle.book.specs.declared.Reading.the-variants as read
 use Rattle.book.specs.declared.Starts.{Starts}
-use Rattle.values.specs.Writing.{faultIn, Writes}
+use Rattle.values.specs.Writing.{faultIn, longest, Writes}
 use Rattle.values.specs.Promises.{Typed, Outcome, outcomeBy, outcomeOf}
 use Rattle.values.specs.Laws.Admitted.{sound-iff-admitted}
 use Rattle.values.specs.declared.Unwritten.the-variants as unwritten
@@ -90,18 +90,30 @@ writes-same v old new new′ r r′ w w′ = go (which v old)
         let b = w′ .written (h .sound) (h .room) in
         (a .0 ∙ sym (b .0), a .1 ∙ sym (b .1))
 
+-- the buffer is as long as it was
+pub length-kept : (v : Contents) (old new : List ℕ) (r : Wrote) → Writes v old new r → length new ≡ length old
+length-kept v old new r w = go (which v old)
+  where
+    go : Which v old → length new ≡ length old
+    go (inl h) = ap length (w .faulty (h .fault) (h .told) .1)
+    go (inr (inl h)) = ap length (w .short (h .sound) (h .short) .1)
+    go (inr (inr h)) =
+        let n = length (bytesOf v) in
+        ap length (w .written (h .sound) (h .room) .1) ∙ length-append (bytesOf v) (drop n old) ∙ omega (arith, length-drop n old, h .room)
+
 -- ---- what was written
 
--- where a length is answered the values have no fault, it is that of the layout, and the layout stands at the front
-pub record IsWritten (v : Contents) (new : List ℕ) (n : ℕ) : Type 0 where
+-- where a length is answered the values have no fault, it is that of the layout, there was room, and the layout stands at the front
+pub record IsWritten (v : Contents) (old new : List ℕ) (n : ℕ) : Type 0 where
   pub sound : faultIn v ≡ none
   pub long : n ≡ length (bytesOf v)
+  pub room : n ≤ length old
   pub front : take n new ≡ bytesOf v
 
-pub is-written : (v : Contents) (old new : List ℕ) (n : ℕ) → Writes v old new (Written n) → IsWritten v new n
+pub is-written : (v : Contents) (old new : List ℕ) (n : ℕ) → Writes v old new (Written n) → IsWritten v old new n
 is-written v old new n w = go (which v old)
   where
-    go : Which v old → IsWritten v new n
+    go : Which v old → IsWritten v old new n
     go (inl h) = let e = w .faulty (h .fault) (h .told) .0 in let z : _≡_ {A = ℕ} 0 1 = cc in absurd (omega arith)
     go (inr (inl h)) = let e = w .short (h .sound) (h .short) .0 in let z : _≡_ {A = ℕ} 0 1 = cc in absurd (omega arith)
     go (inr (inr h)) =
@@ -111,6 +123,7 @@ is-written v old new n w = go (which v old)
         record {
           sound = h .sound;
           long = long;
+          room = omega (arith, h .room);
           front =
               ap (λ (k : ℕ). take k new) long
               ∙ ap (take (length (bytesOf v))) (a .1)
@@ -142,8 +155,8 @@ length-is v old new n t w =
     let h = is-written v old new n w in
     h .long ∙ layout-length v (sound-iff-admitted v t .0 (h .sound))
 
--- 803 bytes always suffice
-pub longest-enough : (v : Contents) (old new : List ℕ) (at : ℕ) → Typed v → 803 ≤ length old → Writes v old new (Refused unwritten.Room at) → ⊥
+-- a buffer as long as the longest book always suffices
+pub longest-enough : (v : Contents) (old new : List ℕ) (at : ℕ) → Typed v → longest ≤ length old → Writes v old new (Refused unwritten.Room at) → ⊥
 longest-enough v old new at t long w = go (which v old)
   where
     go : Which v old → ⊥

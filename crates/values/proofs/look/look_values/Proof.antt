@@ -45,9 +45,11 @@ loop-less c = omega arith
 loop-again : tie.Need-loop-again Inv-loop μ-loop
 loop-again c =
     let look = c .before .before in
-    let l = look .before .before in
-    (omega arith, one-more (lookAt (l .before .args .values) (l .before .args .section)) (l .loop .i) (l .loop .inv .1)
-    (sym (look .look-value .ensures) ∙ c .enum-told .given .1))
+    let l = look .before .before in (
+      omega arith,
+      one-more (lookAt (l .before .args .values) (l .before .args .section)) (l .loop .i) (l .loop .inv .1)
+          (sym (look .look-value .ensures) ∙ c .enum-told .given .1),
+    )
 
 returns-2 : tie.Need-returns-2 Inv-loop μ-loop
 returns-2 c =
