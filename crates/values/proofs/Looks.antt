@@ -23,6 +23,7 @@ use Rattle.book.specs.declared.Section.{Section}
 use Rattle.book.specs.declared.Section.the-variants.{Permissions, Rows, Policies}
 use Rattle.values.specs.Values.{contentsFor}
 use Rattle.values.specs.Writing.{valueLooks, sectionIn, firstOf, faultIn}
+use Rattle.values.specs.Laws.First.{orElse, first-append, neither, none-head}
 use Rattle.values.specs.Inner.Looks.{limitIn, Counted, codeIn, rowIn, policyIn, priorTo, leadOf, staysAt, lookWith, sectionLooks, told}
 use Rattle.values.specs.declared.Values.{Values}
 
@@ -111,41 +112,8 @@ unfolding firstOf
 first-sound l e = rw e
 
 -- of looks and those after them
-look-append : {f : Fault} (x : Look) (l m : List Look) → (firstOf l ≡ some f → firstOf (l ++ m) ≡ some f)
-    → firstOf (x ∷ l) ≡ some f → firstOf (x ∷ (l ++ m)) ≡ some f
-unfolding firstOf
-look-append Sound l m ih e = ih e
-look-append (Faulty g) l m ih e = e
-
-pub append-faulty : {f : Fault} (l m : List Look) → firstOf l ≡ some f → firstOf (l ++ m) ≡ some f
-unfolding firstOf
-append-faulty [] m e = let z : _≡_ {A = ℕ} 0 1 = cc in cc
-append-faulty (x ∷ l) m e = look-append x l m (append-faulty l m) e
-
-look-on : (x : Look) (l m : List Look) → (firstOf l ≡ none → firstOf (l ++ m) ≡ firstOf m) → firstOf (x ∷ l) ≡ none
-    → firstOf (x ∷ (l ++ m)) ≡ firstOf m
-unfolding firstOf
-look-on Sound l m ih e = ih e
-look-on (Faulty g) l m ih e = let z : _≡_ {A = ℕ} 0 1 = cc in cc
-
-pub append-sound : (l m : List Look) → firstOf l ≡ none → firstOf (l ++ m) ≡ firstOf m
-unfolding firstOf
-append-sound [] m e = refl
-append-sound (x ∷ l) m e = look-on x l m (append-sound l m) e
-
--- where there is none, there is none of any part
-sound-look : (x : Look) (l : List Look) → firstOf (x ∷ l) ≡ none → (x ≡ Sound) × (firstOf l ≡ none)
-unfolding firstOf
-sound-look Sound l e = (refl, e)
-sound-look (Faulty f) l e = let z : _≡_ {A = ℕ} 0 1 = cc in (cc, cc)
-
-sound-parts : (l m : List Look) → firstOf (l ++ m) ≡ none → (firstOf l ≡ none) × (firstOf m ≡ none)
-unfolding firstOf
-sound-parts [] m e = (refl, e)
-sound-parts (x ∷ l) m e =
-    let first = sound-look x (l ++ m) e in
-    let rest = sound-parts l m (first .1) in
-    (first-sound l (first .0) ∙ rest .0, rest .1)
+pub append-by : {o : Option Fault} (l m : List Look) → firstOf l ≡ o → firstOf (l ++ m) ≡ orElse o (firstOf m)
+append-by l m e = first-append l m ∙ ap (λ (x : Option Fault). orElse x (firstOf m)) e
 
 -- what is told says which it is
 pub told-faulty : {f : Fault} (o : Option Fault) → told o ≡ Faulty f → o ≡ some f
@@ -193,12 +161,12 @@ pub sound-counted : (v : Values) → faultIn (contentsFor v) ≡ none → Counte
 sound-counted v e = go
   where
     parts : (firstOf (sectionLooks v Permissions) ≡ none) × (firstOf (sectionLooks v Rows ++ sectionLooks v Policies) ≡ none)
-    parts = sound-parts (sectionLooks v Permissions) _ (sym (fault-by-sections v) ∙ e)
+    parts = neither _ _ (sym (first-append (sectionLooks v Permissions) _) ∙ sym (fault-by-sections v) ∙ e)
 
     others : (firstOf (sectionLooks v Rows) ≡ none) × (firstOf (sectionLooks v Policies) ≡ none)
-    others = sound-parts (sectionLooks v Rows) _ (parts .1)
+    others = neither _ _ (sym (first-append (sectionLooks v Rows) _) ∙ parts .1)
 
     go : Counted v
-    go Permissions = count-within Permissions _ (sound-look _ _ (parts .0) .0)
-    go Rows = count-within Rows _ (sound-look _ _ (others .0) .0)
-    go Policies = count-within Policies _ (sound-look _ _ (others .1) .0)
+    go Permissions = count-within Permissions _ (none-head _ _ (parts .0) .0)
+    go Rows = count-within Rows _ (none-head _ _ (others .0) .0)
+    go Policies = count-within Policies _ (none-head _ _ (others .1) .0)

@@ -7,7 +7,7 @@ use Rattle.book.specs.declared.Section.the-variants.{Permissions, Rows, Policie
 use Rattle.values.specs.Values.{contentsFor}
 use Rattle.values.specs.Writing.{firstOf, faultIn}
 use Rattle.values.specs.Inner.Looks.{sectionLooks, told}
-use Rattle.values.proofs.Looks.{append-faulty, append-sound, told-faulty, told-sound, fault-by-sections}
+use Rattle.values.proofs.Looks.{append-by, told-faulty, told-sound, fault-by-sections}
 use Rattle.values.proofs.look.first_fault.Statement.{statement}
 use Rattle.values.proofs.look.first_fault.Tie as tie
 
@@ -22,7 +22,7 @@ returns c =
     let l = c .before .before .before in
     let v = l .before .args .values in
     let here = told-faulty _ (sym (l .look-section .ensures) ∙ c .before .fault .given .1) in
-    sym (ap told (fault-by-sections v ∙ append-faulty (sectionLooks v Permissions) _ here))
+    sym (ap told (fault-by-sections v ∙ append-by (sectionLooks v Permissions) _ here))
 
 enum-told : tie.Need-enum-told
 enum-told c = search needs
@@ -34,7 +34,7 @@ past-codes : (c : tie.After-enum-told)
 past-codes c =
     let l = c .before .before in
     let v = l .before .args .values in
-    fault-by-sections v ∙ append-sound (sectionLooks v Permissions) _ (told-sound _ (sym (l .look-section .ensures) ∙ c .enum-told .given .1))
+    fault-by-sections v ∙ append-by (sectionLooks v Permissions) _ (told-sound _ (sym (l .look-section .ensures) ∙ c .enum-told .given .1))
 
 look-section-requires-2 : tie.Need-look-section-requires-2
 look-section-requires-2 c κs = search needs
@@ -47,7 +47,7 @@ returns-2 c =
     let l = c .before .before .before in
     let v = l .before .before .before .before .args .values in
     let here = told-faulty _ (sym (l .look-section2 .ensures) ∙ c .before .fault2 .given .1) in
-    sym (ap told (past-codes (l .before) ∙ append-faulty (sectionLooks v Rows) _ here))
+    sym (ap told (past-codes (l .before) ∙ append-by (sectionLooks v Rows) _ here))
 
 enum-told-2 : tie.Need-enum-told-2
 enum-told-2 c = search needs
@@ -60,7 +60,7 @@ returns-3 c =
     let l = c .before .before .before in
     let v = l .before .before .before .before .args .values in
     let none-here = told-sound _ (sym (l .look-section2 .ensures) ∙ c .before .enum-told2 .given .1) in
-    c .look-section3 .ensures ∙ sym (ap told (past-codes (l .before) ∙ append-sound (sectionLooks v Rows) _ none-here))
+    c .look-section3 .ensures ∙ sym (ap told (past-codes (l .before) ∙ append-by (sectionLooks v Rows) _ none-here))
 
 pub first-fault-spec : {M : Type 1} → statement M
 first-fault-spec =
