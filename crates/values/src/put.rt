@@ -9,7 +9,6 @@ use book::Section;
 use roster::Policy;
 use text::put;
 ghost use mathlib.Core.Path.{_≡_};
-ghost use mathlib.Core.List.{[], _∷_};
 ghost use Prim.Native.Nat.{_%_, _≤_, _<_};
 ghost use lib.ListN.{length};
 ghost use Rattle.book.specs.Layout.{littleEndian, fieldBytes, rowWidths, rowFields, policyWidths, policyFields, bytesOf};

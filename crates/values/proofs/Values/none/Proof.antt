@@ -1,6 +1,6 @@
 -- Arrays of nothing are the tables of nothing, by computing. Assumes nothing.
 use borrow.Author.Needs.{needs}
-use mathlib.Core.Path.{_≡_, refl}
+use mathlib.Core.Path.{_≡_}
 use lib.ListN.{replicate}
 use Rattle.sets.specs.Arrays.{tabulate}
 use Rattle.roster.specs.declared.Policy.{Policy}

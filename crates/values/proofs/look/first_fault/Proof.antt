@@ -1,7 +1,6 @@
 -- The first section with a fault has the first fault. Assumes nothing.
 use borrow.Author.Needs.{needs}
 use mathlib.Core.Path.{_≡_, sym, ap, _∙_}
-use mathlib.Core.Option.{none}
 use mathlib.Core.List.{_++_}
 use Rattle.book.specs.declared.Section.the-variants.{Permissions, Rows, Policies}
 use Rattle.values.specs.Values.{contentsFor}

@@ -1,8 +1,8 @@
 -- The loop's invariant: what is left of the number is still to be written. Assumes nothing.
 use borrow.Author.Needs.{needs}
-use mathlib.Core.Path.{_≡_, sym, ap, _∙_}
-use mathlib.Core.List.{List, [], _∷_}
-use Prim.Native.Nat.{ℕ, _+_, _-_, _/_, _≤_}
+use mathlib.Core.Path.{_≡_, ap}
+use mathlib.Core.List.{[], _∷_}
+use Prim.Native.Nat.{ℕ, _-_, _≤_}
 use native.Mathlib.Omega.{arith}
 use Rattle.book.specs.Layout.{littleEndian}
 use Rattle.text.specs.Laws.Appends.{SoFar, begin, step, with-rest, finish, same, read-as}

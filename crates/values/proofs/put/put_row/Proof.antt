@@ -2,7 +2,6 @@
 use borrow.Author.Needs.{needs}
 use mathlib.Core.Path.{_≡_, ap}
 use mathlib.Core.List.{_++_, append-nil}
-use Prim.Native.Nat.{ℕ}
 use Rattle.book.specs.Layout.{littleEndian, fieldBytes, rowWidths, rowFields}
 use Rattle.book.specs.declared.Row.{Row}
 use Rattle.text.specs.Laws.Appends.{_then_, read-as}
