@@ -1,7 +1,7 @@
 -- Request 01: what is promised of writing, in the words of the request. What may be replied stands in `Writes`; here are the assumptions of the
 -- theorems, and below which theorem is which sentence. Nothing here is proved: these are definitions.
 --
--- "writes exactly the one book that reads back to the same values": `reads-back`, `the-one-book`; "answers its length": `length-is`
+-- "writes exactly the one book that reads back to the same values": `reads-back`, `values-back`, `the-one-book`; "answers its length": `length-is`
 -- "reading any good book and writing it gives the same bytes": `values-of-good`, `same-bytes`; a refused book has no values: `values-of-refused`
 -- "Bytes past the book stay as they were, and a refusal writes nothing": in `Writes` itself
 -- "12 to 18 and 2 to 5 as in the reader, in reading order": `as-in-the-reader`, `wide-refused`, `sound-iff-admitted`

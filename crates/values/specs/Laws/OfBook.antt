@@ -1,9 +1,9 @@
--- "reading any good book and writing it gives the same bytes". Assumes nothing.
+-- "reading any good book and writing it gives the same bytes", and what was written gives its values back. Assumes nothing.
 use mathlib.Core.Path.{_≡_, refl, sym, ap, _∙_, subst}
 use mathlib.Core.List.{List, [], _∷_, _++_}
 use Prim.Native.Nat.{ℕ, zero, suc, _≤_}
 use native.Mathlib.Omega.{arith}
-use lib.ListN.{length, getD, drop}
+use lib.ListN.{length, getD, take, drop}
 use Rattle.sets.specs.Arrays.{tabulate}
 use Rattle.roster.specs.Limits.{rowLimit}
 use Rattle.roster.specs.declared.Policy.{Policy}
@@ -13,12 +13,15 @@ use Rattle.book.specs.Parts.{contentsOf}
 use Rattle.book.specs.Promises.{Bytes}
 use Rattle.book.specs.Laws.Books.{good-layout}
 use Rattle.book.specs.declared.Fault.{Fault}
+use Rattle.book.specs.declared.Reading.{Reading}
 use Rattle.book.specs.declared.Reading.the-variants as read
 use Rattle.book.specs.declared.Row.{Row}
 use Rattle.book.specs.declared.Starts.{Starts}
 use Rattle.values.specs.Values.{nobody, unasked, contentsFor, valuesFor, noValues, contentsBy, valuesOf}
 use Rattle.values.specs.Writing.{Writes}
-use Rattle.values.specs.Laws.Admitted.{admitted-none}
+use Rattle.values.specs.Promises.{Typed}
+use Rattle.values.specs.Laws.Admitted.{sound-iff-admitted, admitted-none}
+use Rattle.values.specs.Laws.Outcome.{is-written, reads-back}
 use Rattle.values.specs.declared.Wrote.{Wrote}
 use Rattle.values.specs.declared.Wrote.the-variants.{Written}
 
@@ -50,12 +53,21 @@ values-for v a =
 pub values-of-good : (book : List ℕ) (s : Starts) → Bytes book → readOf book ≡ read.Good s → contentsFor (valuesOf book) ≡ contentsOf book
 unfolding valuesOf
 values-of-good book s bytes e =
-    ap (λ (r : _). contentsFor (valuesFor (contentsBy book r))) e ∙ values-for (contentsOf book) (good-layout book s bytes e .admitted)
+    ap (λ (r : Reading). contentsFor (valuesFor (contentsBy book r))) e ∙ values-for (contentsOf book) (good-layout book s bytes e .admitted)
 
 -- "a refused book has none"
 pub values-of-refused : (book : List ℕ) (f : Fault) (at : ℕ) → readOf book ≡ read.Refused f at → valuesOf book ≡ noValues
 unfolding valuesOf
-values-of-refused book f at e = ap (λ (r : _). valuesFor (contentsBy book r)) e
+values-of-refused book f at e = ap (λ (r : Reading). valuesFor (contentsBy book r)) e
+
+-- written and read again: the same values
+pub values-back : (v : Contents) (old new : List ℕ) (n : ℕ) → Typed v → Writes v old new (Written n) → contentsFor (valuesOf (take n new)) ≡ v
+unfolding valuesOf
+values-back v old new n t w =
+    let back = reads-back v old new n t w in
+    ap (λ (r : Reading). contentsFor (valuesFor (contentsBy (take n new) r))) (back .0)
+    ∙ ap (λ (x : Contents). contentsFor (valuesFor x)) (back .1)
+    ∙ values-for v (sound-iff-admitted v t .0 (is-written v old new n w .sound))
 
 -- read and written again, with room for it: the same bytes, and nothing else touched
 pub same-bytes : (book : List ℕ) (s : Starts) → Bytes book → readOf book ≡ read.Good s
