@@ -1,7 +1,7 @@
--- Laws of what is put: the bytes of a number one by one, the sections of a book by index, and how long they are. Assumes nothing.
+-- Laws of what is put: the sections of a book by index, and how long they are. Assumes nothing.
 use mathlib.Core.Path.{_≡_, refl, sym, ap, ap₂, _∙_, fun-ext}
 use mathlib.Core.List.{List, [], _∷_, _++_}
-use Prim.Native.Nat.{ℕ, zero, suc, _+_, _-_, _*_, _/_, _%_, _≤_, _<_}
+use Prim.Native.Nat.{ℕ, zero, suc, _+_, _-_, _*_, _≤_, _<_}
 use native.Mathlib.Nat.{mul-suc}
 use native.Mathlib.Omega.{arith}
 use lib.ListN.{length, length-append}
@@ -16,21 +16,9 @@ use Rattle.values.specs.Inner.Looks.{countOf, codeIn, rowIn, policyIn}
 use Rattle.values.specs.Inner.Puts.{entryBytes, inOrder, sectionBytes}
 use Rattle.values.specs.declared.Values.{Values}
 
--- ---- a number
-
--- its lowest byte, then the others
-pub little-next : (width i x : ℕ) → i < width → littleEndian (width - i) x ≡ (x % 256 ∷ []) ++ littleEndian (width - (i + 1)) (x / 256)
-unfolding littleEndian
-little-next width i x l = let e : width - i ≡ suc (width - (i + 1)) = omega arith in ap (λ (w : ℕ). littleEndian w x) e
-
-pub little-last : (width i x : ℕ) → width ≤ i → littleEndian (width - i) x ≡ []
-unfolding littleEndian
-little-last width i x l = let e : width - i ≡ 0 = omega arith in ap (λ (w : ℕ). littleEndian w x) e
-
--- a count that is a byte
-pub count-byte : (n : ℕ) → n < 256 → littleEndian 1 n ≡ n ∷ []
-unfolding littleEndian
-count-byte n l = let e : n % 256 ≡ n = omega arith in ap (λ (k : ℕ). k ∷ []) e
+-- one byte, by what it is
+pub byte : {x y : ℕ} → x ≡ y → x ∷ [] ≡ y ∷ []
+byte e = ap (λ (b : ℕ). b ∷ []) e
 
 -- ---- entries by index
 

@@ -26,8 +26,8 @@ code-in-requires c κs = within (c .before .enum-told .given .1) (c .before .bef
 wide-requires : tie.Need-wide-requires
 wide-requires c κs = search needs
 
-put-number-requires : tie.Need-put-number-requires
-put-number-requires c κs = search needs
+put-two-requires : tie.Need-put-two-requires
+put-two-requires c κs = search needs
 
 enum-told-2 : tie.Need-enum-told-2
 enum-told-2 c = search needs
@@ -60,7 +60,7 @@ returns c =
     (ap (littleEndian 2) (put .before .wide .ensures ∙ code .code-in .ensures)
     ∙ one-field _
     ∙ ap (λ (s : Section). entryBytes (a .values) s (a .i)) (sym (t .enum-told .given .1)))
-    (put .put-number .ensures)
+    (put .put-two .ensures)
 
 same-length-2 : tie.Need-same-length-2
 same-length-2 c = search needs
@@ -95,7 +95,7 @@ put-entry-spec =
     enum-told
     code-in-requires
     wide-requires
-    put-number-requires
+    put-two-requires
     enum-told-2
     row-in-requires
     put-row-requires

@@ -15,14 +15,14 @@ parts row = simp append-nil
 wide-requires : tie.Need-wide-requires
 wide-requires c κs = search needs
 
-put-number-requires : tie.Need-put-number-requires
-put-number-requires c κs = search needs
+put-four-requires : tie.Need-put-four-requires
+put-four-requires c κs = search needs
 
 wide-requires-2 : tie.Need-wide-requires-2
 wide-requires-2 c κs = search needs
 
-put-number-requires-2 : tie.Need-put-number-requires-2
-put-number-requires-2 c κs = search needs
+put-four-requires-2 : tie.Need-put-four-requires-2
+put-four-requires-2 c κs = search needs
 
 same-length : tie.Need-same-length
 same-length c = search needs
@@ -33,16 +33,16 @@ returns c =
     let first = second .before .before .before .before .before in
     let a = first .before .before .before .before .args in
     read-as (parts (a .row))
-    (read-as (ap (littleEndian 4) (first .before .wide .ensures)) (first .put-number .ensures)
-    then read-as (ap (littleEndian 4) (second .before .wide2 .ensures)) (second .put-number2 .ensures))
+    (read-as (ap (littleEndian 4) (first .before .wide .ensures)) (first .put-four .ensures)
+    then read-as (ap (littleEndian 4) (second .before .wide2 .ensures)) (second .put-four2 .ensures))
 
 pub put-row-spec : {M : Type 1} → statement M
 put-row-spec =
     tie.close
     (tie.spec
     wide-requires
-    put-number-requires
+    put-four-requires
     wide-requires-2
-    put-number-requires-2
+    put-four-requires-2
     same-length
     returns)
