@@ -91,14 +91,14 @@ returns-2 c =
     let a = t .before .before .before .before .args in
     (short (contentsFor (a .values)) (a .out .now) (sound t) (omega (arith, c .before .length-of .ensures, c .if1 .taken)), refl)
 
-put-section-requires : tie.Need-put-section-requires
-put-section-requires c κs = counted (c .before .before .before) Permissions
+codes-requires : tie.Need-put-section-requires
+codes-requires c κs = counted (c .before .before .before) Permissions
 
-put-section-requires-2 : tie.Need-put-section-requires-2
-put-section-requires-2 c κs = counted (c .before .before .before .before .before .before .before) Rows
+rows-requires : tie.Need-put-section-requires-2
+rows-requires c κs = counted (c .before .before .before .before .before .before .before) Rows
 
-put-section-requires-3 : tie.Need-put-section-requires-3
-put-section-requires-3 c κs = counted (c .before .before .before .before .before .before .before .before .before .before .before) Policies
+policies-requires : tie.Need-put-section-requires-3
+policies-requires c κs = counted (c .before .before .before .before .before .before .before .before .before .before .before) Policies
 
 same-length : tie.Need-same-length
 same-length c = search needs
@@ -128,8 +128,8 @@ write-spec =
     enum-told
     length-of-requires
     returns-2
-    put-section-requires
-    put-section-requires-2
-    put-section-requires-3
+    codes-requires
+    rows-requires
+    policies-requires
     same-length
     returns-3)
