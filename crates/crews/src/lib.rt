@@ -10,21 +10,23 @@ ghost use Prim.Native.Nat.{_≤_, _<_};
 ghost use lib.Bits.{bitAnd, bitXor};
 ghost use lib.Count.{ones};
 ghost use Rattle.roster.specs.Limits.{rowLimit, crewLimit};
-ghost use Rattle.crews.specs.Filling.{placeOf, closeOf, wantedOf, begin, search, plainly, holdsOf, holdersOf};
+ghost use Rattle.crews.specs.Filling.{placeOf, closeOf, wantedOf, begin, search, orderly, holdsOf, holdersOf};
 ghost use Rattle.sets.specs.Arrays.{tabulate, at};
 ghost use Rattle.crews.specs.Filled.{filledWith, filledOf, closedWhere, stuck, foundFrom, repliedOf, Ready};
 ghost use Rattle.roster.specs.Replies.{noCrews};
 ghost use Rattle.crews.specs.declared.Ending.the-variants.{Complete};
 ghost use Rattle.crews.specs.Named.{NamedReply};
 
-// The half-filled crews: those closed, the one being filled, the rows neither absent nor placed, and what the crew being filled holds. That
-// one is a field of its own because it changes with each row: written into the array, the copy of the array that follows would wait for it.
+// The half-filled crews: those closed, the one being filled, the rows neither absent nor placed, what the crew being filled holds, and the
+// lowest row that may begin the next crew. The crew being filled is a field of its own because it changes with each row: written into the
+// array, the copy of the array that follows would wait for it.
 struct Filling {
     crews: [u64; Policy::CREWS],
     closed: usize,
     crew: u64,
     free: u64,
     held: u32,
+    from: usize,
 }
 
 // How filling ends: with a complete list, with all lists exhausted, or because one more unit than the allowance was wanted.
@@ -54,6 +56,7 @@ impl Filling {
             crew: 0,
             free: free,
             held: 0,
+            from: 0,
         }
     }
 
@@ -63,12 +66,14 @@ impl Filling {
         ensures { λ r. ⌜ r ≡ placeOf self row holds ⌝ }
     {
         let crews = self.crews;
+        let from = if self.crew == 0 { row + 1 } else { self.from };
         Filling {
             crews: crews,
             closed: self.closed,
             crew: self.crew | (1u64 << row),
             free: self.free ^ (1u64 << row),
             held: self.held | holds,
+            from: from,
         }
     }
 
@@ -86,6 +91,7 @@ impl Filling {
             crew: 0,
             free: self.free,
             held: 0,
+            from: self.from,
         }
     }
 
@@ -175,7 +181,7 @@ fn fill_on(
     allowance: u32,
 ) -> Filled
     requires { ⌜ Ready task crews placed spent allowance ⌝ }
-    ensures { λ r. ⌜ r ≡ filledOf allowance spent (search (ones (placed .free)) (plainly (at (now (holds .entry))) (at (now (holders .entry))) task crews size) (closedWhere task placed)) ⌝ }
+    ensures { λ r. ⌜ r ≡ filledOf allowance spent (search (ones (placed .free)) (orderly (at (now (holds .entry))) (at (now (holders .entry))) task crews size) (closedWhere task placed)) ⌝ }
 {
     let f = placed.settled(task);
     if f.closed == crews {
@@ -219,7 +225,7 @@ pub fn fill(
     spent: u32,
     allowance: u32,
 ) -> Filled
-    ensures { λ r. ⌜ r ≡ filledOf allowance spent (foundFrom (plainly (at (now (holds .entry))) (at (now (holders .entry))) task crews size) free) ⌝ }
+    ensures { λ r. ⌜ r ≡ filledOf allowance spent (foundFrom (orderly (at (now (holds .entry))) (at (now (holders .entry))) task crews size) free) ⌝ }
     ensures kept { λ _. ⌜ (now (holds .exit) ≡ now (holds .entry)) × (now (holders .exit) ≡ now (holders .entry)) ⌝ }
 {
     if spent > allowance {
