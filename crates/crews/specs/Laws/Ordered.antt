@@ -21,7 +21,7 @@ use Rattle.sets.specs.Laws.Members.{has-of-mem, mem-of-has, members-ascend, fil
 use Rattle.roster.specs.Limits.{rowLimit, crewLimit}
 use Rattle.crews.specs.declared.Filling.{Filling}
 use Rattle.crews.specs.Filling.{Work, Outcome, nothing, complete, after, missingOf, placeOf, closeOf, placedOf, wantedOf, candidates, tryEach, search, begin, plainly, orderly}
-use Rattle.crews.specs.Laws.Search.{putOf, placed-is, Candidate, Tried, candidate-of, search-done, search-out, search-full, search-open, search-keeps}
+use Rattle.crews.specs.Laws.Search.{putOf, placed-is, from-first, from-next, Candidate, Tried, candidate-of, search-done, search-out, search-full, search-open, search-keeps}
 use Rattle.crews.specs.Laws.Sound.{Shape, shape-put, Held, State, crew, filled-at, closed-at, close-at, stays, unfinished, state-placed, state-begin}
 use Rattle.crews.specs.Laws.Complete.{Ready, Solves, Part, goes, same-or-not}
 use Rattle.crews.specs.Laws.Steps.{try-works, try-fails}
@@ -203,21 +203,17 @@ module _ (holds holders : ℕ → ℕ) (P d t F : ℕ) where
       other-placed u n h = placed-is old f row (λ g. Has (g .free) u) (λ z. other-put u n h) (λ z. other-put u n h)
 
       -- from which row on the next crew may begin
-      from-first-put : f .crew ≡ 0 → putOf old f row .from ≡ row + 1
-      unfolding placeOf
-      from-first-put e = ap (λ (b : Bool). elim b [ true ↦ row + 1 | false ↦ f .from ]) (eq-eqb (f .crew) 0 e)
-
-      from-first : f .crew ≡ 0 → placedOf old f row .from ≡ row + 1
+      from-begun : f .crew ≡ 0 → placedOf old f row .from ≡ row + 1
       unfolding closeOf
-      from-first e = placed-is old f row (λ g. g .from ≡ row + 1) (λ z. from-first-put e) (λ z. from-first-put e)
+      from-begun e =
+          let first = from-first f row (holds row) e in
+          placed-is old f row (λ g. g .from ≡ row + 1) (λ z. first) (λ z. first)
 
-      from-next-put : f .crew ≢ 0 → putOf old f row .from ≡ f .from
-      unfolding placeOf
-      from-next-put n = ap (λ (b : Bool). elim b [ true ↦ row + 1 | false ↦ f .from ]) (ne-eqb (f .crew) 0 n)
-
-      from-next : f .crew ≢ 0 → placedOf old f row .from ≡ f .from
+      from-going : f .crew ≢ 0 → placedOf old f row .from ≡ f .from
       unfolding closeOf
-      from-next n = placed-is old f row (λ g. g .from ≡ f .from) (λ z. from-next-put n) (λ z. from-next-put n)
+      from-going n =
+          let next = from-next f row (holds row) n in
+          placed-is old f row (λ g. g .from ≡ f .from) (λ z. next) (λ z. next)
 
       -- a crew just begun holds nothing, and one that lacks nothing is closed
       fresh-put : putOf old f row .crew ≡ 0 → putOf old f row .held ≡ 0
@@ -418,7 +414,7 @@ module _ (holds holders : ℕ → ℕ) (P d t F : ℕ) where
           let c = is-candidate row (x .0) (x .1) in
           let tried : Tried old f row = record { going = going; room = room; candidate = c } in
           both row l l
-          (row-alike row c (λ v b p q. w .dead v (omega (arith, from-next f row (w .state) tried k)) p (later-placed f row (w .state) tried .free v q)))
+          (row-alike row c (λ v b p q. w .dead v (omega (arith, from-going f row (w .state) tried k)) p (later-placed f row (w .state) tried .free v q)))
           (λ e. next-each k l (λ y m. h y (List·Memᴰ·tail m)))
 
       next : f .crew ≢ 0 → Alike (by-new (candidates new f)) (by-old (candidates old f))
@@ -507,7 +503,7 @@ module _ (holds holders : ℕ → ℕ) (P d t F : ℕ) where
                 go (no m) =
                     let free = later-placed f row (w .state) tried .free c q in
                     barren n f w empty fuel going room c p free
-                    (failed c (omega (arith, from-first f row (w .state) tried empty, b, m)) p free)
+                    (failed c (omega (arith, from-begun f row (w .state) tried empty, b, m)) p free)
 
         first-each : (l : List ℕ) (k : ℕ) → Ascends k l → Failed k
             → ((row : ℕ) → List·Memᴰ row l → Candidate old f row × Has (holders lead) row)

@@ -4,7 +4,7 @@ use mathlib.Core.Path.{_≡_, refl, sym, ap, _∙_, subst}
 use mathlib.Core.Bool.{Bool, true, false, true≢false}
 use mathlib.Core.Logic.{_⊎_, inl, inr, ⊎-elim, _≢_}
 use mathlib.Core.List.{List, [], _∷_, List·Memᴰ, List·Memᴰ·head, List·Memᴰ·tail, List·Memᴰ·cases-cons, List·Memᴰ·not-nil}
-use Prim.Native.Nat.{ℕ, zero, suc, _^_, _≤_, _<_}
+use Prim.Native.Nat.{ℕ, zero, suc, _+_, _^_, _≤_, _<_}
 use native.Mathlib.Omega.{arith}
 use lib.Bits.{bitAnd}
 use lib.Count.{ones, trailingZeros}
@@ -54,6 +54,16 @@ module _ (w : Work) (f : Filling) (row : ℕ) where
       (either (w .closes (putOf w f row))))
       (λ e. let z = eqb-false _ 0 e in subst Q (sym (placed-short z)) (kept (inl z)))
       (either (eqb (missingOf (w .task) (putOf w f row)) 0))
+
+-- from which row on the next crew may begin: the row after the first of this one
+module _ (f : Filling) (row h : ℕ) where
+  pub from-first : f .crew ≡ 0 → placeOf f row h .from ≡ row + 1
+  unfolding placeOf
+  from-first e = ap (λ (b : Bool). elim b [ true ↦ row + 1 | false ↦ f .from ]) (eq-eqb (f .crew) 0 e)
+
+  pub from-next : f .crew ≢ 0 → placeOf f row h .from ≡ f .from
+  unfolding placeOf
+  from-next n = ap (λ (b : Bool). elim b [ true ↦ row + 1 | false ↦ f .from ]) (ne-eqb (f .crew) 0 n)
 
 -- ---- the candidates
 
