@@ -10,7 +10,7 @@ use Rattle.roster.specs.declared.Reply.{Reply}
 use Rattle.roster.specs.Meaning.{Holds, FirstBlocker}
 use Rattle.roster.specs.Refusals.{policyRuling}
 use Rattle.roster.specs.Replies.{noCrews, replyWith}
-use Rattle.crews.specs.Filling.{filling}
+use Rattle.crews.specs.Filling.{filling, fillingBefore}
 use Rattle.crews.specs.Named.{firstList}
 use Rattle.absences.specs.Tried.{Way, tried, Found, weighed}
 
@@ -41,3 +41,16 @@ pub record PolicyReplyBy (w : Found) (crews : List ℕ) (table : Table) (P s d t
 -- what may come back from this search
 abbrev pub PolicyReply : Way → Table → ℕ → ℕ → ℕ → ℕ → ℕ → Reply → Type 0
 PolicyReply way table P s d t = PolicyReplyBy (found way table P s d t) (firstList table P d t 0) table P s d t
+
+-- ---- the rule of filling before, kept as the reference
+
+-- what trying its absences came to, and the first list
+abbrev pub foundBefore : Way → Table → ℕ → ℕ → ℕ → ℕ → Found
+foundBefore way table P s d t = weighed (fillingBefore table P d t) (tried way table P s)
+
+abbrev pub firstBefore : Table → ℕ → ℕ → ℕ → ℕ → List ℕ
+firstBefore table P d t A = fillingBefore table P d t A .crews
+
+-- what might come back by that rule
+abbrev pub PolicyReplyBefore : Way → Table → ℕ → ℕ → ℕ → ℕ → ℕ → Reply → Type 0
+PolicyReplyBefore way table P s d t = PolicyReplyBy (foundBefore way table P s d t) (firstBefore table P d t 0) table P s d t
