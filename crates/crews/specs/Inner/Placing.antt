@@ -1,5 +1,4 @@
 -- What the functions below `fill` ask and answer. Only proofs need it: what `fill` answers stands in Filled, without these.
-use mathlib.Core.Path.{_≡_}
 use mathlib.Core.Logic.{_≢_}
 use mathlib.Core.Bool.{Bool, true, false}
 use Prim.Native.Nat.{ℕ, _-_, _^_, _≤_, _<_, min}

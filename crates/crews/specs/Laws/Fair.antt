@@ -1,6 +1,6 @@
 -- The rule over a table: what an admitted question has of what filling needs, that the work is about the table, and that the crews of a
 -- list are what the search looks for. Assumes nothing.
-use mathlib.Core.Path.{_≡_, refl, ap, _∙_}
+use mathlib.Core.Path.{refl, ap, _∙_}
 use mathlib.Core.Logic.{⊎-elim, _≢_}
 use mathlib.Core.List.{List}
 use Prim.Native.Nat.{ℕ, _-_, _^_, _≤_, _<_}
