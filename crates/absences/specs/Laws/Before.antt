@@ -36,20 +36,20 @@ weighed-less fill other alike (A ∷ l) = go (either (other A .found)) (weighed-
 -- P has 32 bits
 module _ (way : Way) (table : Table) (P s d t : ℕ) (wide : P < 2 ^ 32) where
   -- "Need is redefined accordingly": it is no more than it was
-  pub need-before : Admits table P s d t → needPolicy way table P s d t ≤ foundBefore way table P s d t .need
-  need-before e =
+  pub policy-before-need : Admits table P s d t → needPolicy way table P s d t ≤ foundBefore way table P s d t .need
+  policy-before-need e =
       weighed-less (filling table P d t) (fillingBefore table P d t) (same-as-before (admitted-fair table P s d t wide e) t) (tried way table P s)
 
   -- "The first crew list is the same as under the old rule, and so are verdict and blocker whenever both decide"
-  pub before-same : (a b : ℕ) (r q : Reply) → PolicyReply way table P s d t a r → PolicyReplyBefore way table P s d t b q
+  pub policy-before-same : (a b : ℕ) (r q : Reply) → PolicyReply way table P s d t a r → PolicyReplyBefore way table P s d t b q
       → r .verdict ≢ Undecided → q .verdict ≢ Undecided → (r .verdict ≡ q .verdict) × (r .crews ≡ q .crews) × (r .blocker ≡ q .blocker)
-  before-same a b r q =
+  policy-before-same a b r q =
       decided-alike table P s d t wide (found way table P s d t) (foundBefore way table P s d t) (firstList table P d t 0) (firstBefore table P d t 0)
       (λ e. same-as-before (admitted-fair table P s d t wide e) t 0 .crews) a b r q
 
   -- a question is decided wherever it was decided by the rule before, with no more units
-  pub before-decides : (a : ℕ) (r q : Reply) → PolicyReply way table P s d t a r → PolicyReplyBefore way table P s d t a q
+  pub policy-before-decides : (a : ℕ) (r q : Reply) → PolicyReply way table P s d t a r → PolicyReplyBefore way table P s d t a q
       → q .verdict ≢ Undecided → (r .verdict ≢ Undecided) × (r .units ≤ q .units)
-  before-decides a r q k m =
+  policy-before-decides a r q k m =
       decided-sooner table P s d t wide (foundBefore way table P s d t) (found way table P s d t) (firstBefore table P d t 0) (firstList table P d t 0)
-      a q r need-before m k
+      a q r policy-before-need m k
