@@ -14,7 +14,7 @@ use Rattle.roster.specs.declared.Reply.{Reply}
 use Rattle.roster.specs.Meaning.{CrewList, Blocks}
 use Rattle.roster.specs.Refusals.{namedRuling}
 use Rattle.roster.specs.Replies.{noCrews, replyWith}
-use Rattle.crews.specs.Filling.{Outcome, filling}
+use Rattle.crews.specs.Filling.{Outcome, filling, fillingBefore}
 
 -- "The need of a named-absence question is its placements alone."
 abbrev pub needNamed : Table → ℕ → ℕ → ℕ → ℕ → ℕ
@@ -38,6 +38,10 @@ pub record NamedReplyBy (o : Outcome) (table : Table) (P d t A allowance : ℕ) 
 
 abbrev pub NamedReply : Table → ℕ → ℕ → ℕ → ℕ → ℕ → Reply → Type 0
 NamedReply table P d t A allowance r = NamedReplyBy (filling table P d t A) table P d t A allowance r
+
+-- the same under the rule before
+abbrev pub NamedReplyBefore : Table → ℕ → ℕ → ℕ → ℕ → ℕ → Reply → Type 0
+NamedReplyBefore table P d t A allowance r = NamedReplyBy (fillingBefore table P d t A) table P d t A allowance r
 
 -- ---- the reply that is allowed, as one that runs
 

@@ -21,7 +21,7 @@ use Rattle.sets.specs.Laws.Members.{has-of-mem, mem-of-has, members-ascend, fil
 use Rattle.roster.specs.Limits.{rowLimit}
 use Rattle.crews.specs.declared.Filling.{Filling}
 use Rattle.crews.specs.Filling.{Work, Outcome, closeOf, placedOf, wantedOf, candidates, tryEach, search, begin, plainly, orderly}
-use Rattle.crews.specs.Laws.Search.{placed-is, from-first, from-next, Candidate, Tried, search-done, search-out, search-full, search-open}
+use Rattle.crews.specs.Laws.Search.{ascends-mem, placed-is, from-first, from-next, Candidate, Tried, search-done, search-out, search-full, search-open}
 use Rattle.crews.specs.Laws.Sound.{unfinished, state-placed}
 use Rattle.crews.specs.Laws.Complete.{Ready, same-or-not}
 use Rattle.crews.specs.Laws.Barren.{lead, Barren, Reach, later-placed, joined-placed, gone-placed, fewer-placed, reach-placed, reach-begin, wanted-first, barren, found-list}
@@ -43,12 +43,6 @@ alike-by e f a = record {
   crews = ap Outcome.crews e ∙ a .crews ∙ sym (ap Outcome.crews f);
   need = omega (arith, ap Outcome.need e, a .need, ap Outcome.need f);
 }
-
--- what is in an ascending list is not below its beginning
-ascends-mem : (k : ℕ) (l : List ℕ) → Ascends k l → (c : ℕ) → List·Memᴰ c l → k ≤ c
-ascends-mem k [] a c m = absurd (List·Memᴰ·not-nil m)
-ascends-mem k (x ∷ l) a c m =
-    ⊎-elim (λ e. omega (arith, e, a .0)) (λ i. omega (arith, ascends-mem (suc x) l (a .1) c i, a .0)) (List·Memᴰ·cases-cons m)
 
 -- ---- the two rules
 

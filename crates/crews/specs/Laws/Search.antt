@@ -11,10 +11,10 @@ use lib.Count.{ones, trailingZeros}
 use lib.Dec.{eqb, leb}
 use borrow.Author.Tests.{eq-eqb, ne-eqb, le-leb, lt-leb, eqb-true, eqb-false, leb-true, leb-false}
 use Rattle.sets.specs.Sets.{bit, Has, and-in, in-and, missing-lt, missing-in, trailing-least}
-use Rattle.sets.specs.Members.{members, setOf}
+use Rattle.sets.specs.Members.{members, setOf, Ascends}
 use Rattle.sets.specs.Laws.Sums.{either, toN-true}
 use Rattle.sets.specs.Laws.Build.{setOf-bit}
-use Rattle.sets.specs.Laws.Members.{has-of-mem, mem-of-has, filter-members}
+use Rattle.sets.specs.Laws.Members.{has-of-mem, mem-of-has, members-ascend, filter-members}
 use Rattle.roster.specs.Limits.{rowLimit}
 use Rattle.roster.specs.Replies.{noCrews}
 use Rattle.crews.specs.declared.Filling.{Filling}
@@ -122,6 +122,19 @@ module _ (w : Work) (f : Filling) where
       (mem-of-has rowLimit (bitAnd (setOf rowLimit (w .begins f)) all) row (c .below) (in-and (setOf rowLimit (w .begins f)) all row s h)))
       (λ e. rw (going e) (mem-of-has rowLimit all row (c .below) h))
       (either (eqb (f .crew) 0))
+
+  pub candidates-ascend : Ascends 0 (candidates w f)
+  candidates-ascend =
+      ⊎-elim
+      (λ e. rw (begun e) (members-ascend 0 rowLimit (bitAnd (setOf rowLimit (w .begins f)) all)))
+      (λ e. rw (going e) (members-ascend 0 rowLimit all))
+      (either (eqb (f .crew) 0))
+
+-- what is in an ascending list is not below its beginning
+pub ascends-mem : (k : ℕ) (l : List ℕ) → Ascends k l → (c : ℕ) → List·Memᴰ c l → k ≤ c
+ascends-mem k [] a c m = absurd (List·Memᴰ·not-nil m)
+ascends-mem k (x ∷ l) a c m =
+    ⊎-elim (λ e. omega (arith, e, a .0)) (λ i. omega (arith, ascends-mem (suc x) l (a .1) c i, a .0)) (List·Memᴰ·cases-cons m)
 
 -- ---- one candidate after another
 
