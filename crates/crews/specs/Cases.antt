@@ -1,6 +1,7 @@
 -- Filling crews, run: one table of tables, tasks and absences with the crews that are filled and the placements that it takes, and one
--- theorem: the definition gives these. Wherever 01 makes a choice, some case here moves with another one: which permission, which
--- candidate, when a crew is closed, when and how far to go back, and what is counted. Nothing but the definition runs.
+-- theorem: the definition gives these. Wherever the rules make a choice, some case here moves with another one: which permission, which
+-- candidate, which row begins a crew, when a crew is closed, when and how far to go back, and what is counted. A second table, with a
+-- theorem of its own, has what the rule before makes. Nothing but the definition runs.
 use mathlib.Core.Path.{_≡_, refl}
 use mathlib.Core.Bool.{true, false}
 use mathlib.Core.List.{List, [], _∷_, _++_, map}
@@ -12,7 +13,7 @@ use Rattle.sets.specs.Sums.{sumTo, toN}
 use Rattle.sets.specs.Members.{cons?, members, filter, hasb, setOf}
 use Rattle.roster.specs.declared.Table.{Table}
 use Rattle.roster.specs.Examples.{tableWith, tableOf, setOfRows, H}
-use Rattle.crews.specs.Filling.{Outcome, placeOf, closeOf, placedOf, candidates, tryEach, search, filling}
+use Rattle.crews.specs.Filling.{Outcome, placeOf, closeOf, placedOf, candidates, tryEach, search, filling, fillingBefore}
 
 -- ---- how the table is written
 
@@ -73,12 +74,37 @@ cases =
     ∷ filled (tableOf (1 ∷ 3 ∷ 3 ∷ 0 ∷ 3 ∷ 3 ∷ 2 ∷ 3 ∷ 3 ∷ 3 ∷ 3 ∷ [])) 3 [] 8 1
     gives crews ((1 ∷ []) ∷ (2 ∷ []) ∷ (4 ∷ []) ∷ (5 ∷ []) ∷ (7 ∷ []) ∷ (8 ∷ []) ∷ (9 ∷ []) ∷ (10 ∷ []) ∷ []) 9
     ∷ filled (tableOf (2 ^ 31 ∷ 0 ∷ 2 ^ 30 ∷ [])) (3 * 2 ^ 30) [] 1 64 gives crews ((0 ∷ 2 ∷ []) ∷ []) 2
+    -- crews begin in ascending order: book B's third policy; none but the first placed is bound, so that row 0 comes second; seven equal rows
+    ∷ filled H 3 [] 3 1 gives none 5
+    ∷ filled (tableOf (2 ∷ 3 ∷ 1 ∷ [])) 3 [] 2 2 gives crews ((1 ∷ []) ∷ (0 ∷ 2 ∷ []) ∷ []) 3
+    ∷ filled (tableOf (1 ∷ 3 ∷ [])) 3 [] 2 1 gives none 2
+    ∷ filled (tableOf (1 ∷ 1 ∷ 1 ∷ 1 ∷ 1 ∷ 1 ∷ 1 ∷ [])) 1 [] 8 1 gives none 127
+    ∷ filled (tableOf (1 ∷ 2 ∷ 3 ∷ 1 ∷ 2 ∷ [])) 3 [] 3 2 gives crews ((0 ∷ 1 ∷ []) ∷ (2 ∷ []) ∷ (3 ∷ 4 ∷ []) ∷ []) 5
+    ∷ filled (tableOf (1 ∷ 2 ∷ 3 ∷ 1 ∷ 2 ∷ [])) 3 [] 4 2 gives none 27
+    ∷ filled (tableOf (5 ∷ 3 ∷ 5 ∷ 3 ∷ 6 ∷ [])) 7 [] 3 3 gives none 59
     ∷ []
 
--- ---- the fact
+-- the rule before, which is the reference: the same lists, and the placements that it made
+abbrev pub casesBefore : List Case
+casesBefore =
+    filled H 3 (0 ∷ []) 2 2 gives crews ((1 ∷ 2 ∷ []) ∷ (3 ∷ []) ∷ []) 3
+    ∷ filled H 3 (0 ∷ 3 ∷ []) 2 2 gives none 2
+    ∷ filled H 3 [] 3 1 gives none 9
+    ∷ filled (tableOf (2 ∷ 3 ∷ 1 ∷ [])) 3 [] 2 2 gives crews ((1 ∷ []) ∷ (0 ∷ 2 ∷ []) ∷ []) 3
+    ∷ filled (tableOf (1 ∷ 3 ∷ [])) 3 [] 2 1 gives none 3
+    ∷ filled (tableOf (1 ∷ 1 ∷ 1 ∷ 1 ∷ 1 ∷ [])) 1 [] 8 1 gives none 325
+    ∷ filled (tableOf (1 ∷ 2 ∷ 3 ∷ 1 ∷ 2 ∷ [])) 3 [] 3 2 gives crews ((0 ∷ 1 ∷ []) ∷ (2 ∷ []) ∷ (3 ∷ 4 ∷ []) ∷ []) 5
+    ∷ filled (tableOf (1 ∷ 2 ∷ 3 ∷ 1 ∷ 2 ∷ [])) 3 [] 4 2 gives none 57
+    ∷ filled (tableOf (5 ∷ 3 ∷ 5 ∷ 3 ∷ 6 ∷ [])) 7 [] 3 3 gives none 124
+    ∷ []
+
+-- ---- the facts
 
 abbrev pub computed : Case → Outcome
 computed (filled table P absent d t gives outcome) = filling table P d t (setOfRows absent)
+
+abbrev pub computedBefore : Case → Outcome
+computedBefore (filled table P absent d t gives outcome) = fillingBefore table P d t (setOfRows absent)
 
 abbrev pub stated : Case → Outcome
 stated (question gives outcome) = outcome
@@ -87,3 +113,8 @@ stated (question gives outcome) = outcome
 pub cases-hold : map computed cases ≡ map stated cases
 unfolding bit sumTo toN cons? members filter hasb setOf ones onesIn trailingZeros placeOf closeOf placedOf candidates tryEach search
 cases-hold = refl
+
+-- and so does the reference
+pub before-holds : map computedBefore casesBefore ≡ map stated casesBefore
+unfolding bit sumTo toN cons? members filter hasb setOf ones onesIn trailingZeros placeOf closeOf placedOf candidates tryEach search
+before-holds = refl
