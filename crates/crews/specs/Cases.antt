@@ -1,7 +1,7 @@
 -- Filling crews, run: one table of tables, tasks and absences with the crews that are filled and the placements that it takes, and one
 -- theorem: the definition gives these. Wherever the rules make a choice, some case here moves with another one: which permission, which
--- candidate, which row begins a crew, when a crew is closed, when and how far to go back, and what is counted. A second table, with a
--- theorem of its own, has what the rule before makes. Nothing but the definition runs.
+-- candidate, which row begins a crew, when a crew is closed, when and how far to go back, and what is counted. Nothing but the definition
+-- runs.
 use mathlib.Core.Path.{_≡_, refl}
 use mathlib.Core.Bool.{true, false}
 use mathlib.Core.List.{List, [], _∷_, _++_, map}
@@ -13,7 +13,7 @@ use Rattle.sets.specs.Sums.{sumTo, toN}
 use Rattle.sets.specs.Members.{cons?, members, filter, hasb, setOf}
 use Rattle.roster.specs.declared.Table.{Table}
 use Rattle.roster.specs.Examples.{tableWith, tableOf, setOfRows, H}
-use Rattle.crews.specs.Filling.{Outcome, placeOf, closeOf, placedOf, candidates, tryEach, search, filling, fillingBefore}
+use Rattle.crews.specs.Filling.{Outcome, placeOf, closeOf, placedOf, candidates, tryEach, search, filling}
 
 -- ---- how the table is written
 
@@ -84,27 +84,10 @@ cases =
     ∷ filled (tableOf (5 ∷ 3 ∷ 5 ∷ 3 ∷ 6 ∷ [])) 7 [] 3 3 gives none 59
     ∷ []
 
--- the rule before, which is the reference: the same lists, and the placements that it made
-abbrev pub casesBefore : List Case
-casesBefore =
-    filled H 3 (0 ∷ []) 2 2 gives crews ((1 ∷ 2 ∷ []) ∷ (3 ∷ []) ∷ []) 3
-    ∷ filled H 3 (0 ∷ 3 ∷ []) 2 2 gives none 2
-    ∷ filled H 3 [] 3 1 gives none 9
-    ∷ filled (tableOf (2 ∷ 3 ∷ 1 ∷ [])) 3 [] 2 2 gives crews ((1 ∷ []) ∷ (0 ∷ 2 ∷ []) ∷ []) 3
-    ∷ filled (tableOf (1 ∷ 3 ∷ [])) 3 [] 2 1 gives none 3
-    ∷ filled (tableOf (1 ∷ 1 ∷ 1 ∷ 1 ∷ 1 ∷ [])) 1 [] 8 1 gives none 325
-    ∷ filled (tableOf (1 ∷ 2 ∷ 3 ∷ 1 ∷ 2 ∷ [])) 3 [] 3 2 gives crews ((0 ∷ 1 ∷ []) ∷ (2 ∷ []) ∷ (3 ∷ 4 ∷ []) ∷ []) 5
-    ∷ filled (tableOf (1 ∷ 2 ∷ 3 ∷ 1 ∷ 2 ∷ [])) 3 [] 4 2 gives none 57
-    ∷ filled (tableOf (5 ∷ 3 ∷ 5 ∷ 3 ∷ 6 ∷ [])) 7 [] 3 3 gives none 124
-    ∷ []
-
--- ---- the facts
+-- ---- the fact
 
 abbrev pub computed : Case → Outcome
 computed (filled table P absent d t gives outcome) = filling table P d t (setOfRows absent)
-
-abbrev pub computedBefore : Case → Outcome
-computedBefore (filled table P absent d t gives outcome) = fillingBefore table P d t (setOfRows absent)
 
 abbrev pub stated : Case → Outcome
 stated (question gives outcome) = outcome
@@ -113,8 +96,3 @@ stated (question gives outcome) = outcome
 pub cases-hold : map computed cases ≡ map stated cases
 unfolding bit sumTo toN cons? members filter hasb setOf ones onesIn trailingZeros placeOf closeOf placedOf candidates tryEach search
 cases-hold = refl
-
--- and so does the reference
-pub before-holds : map computedBefore casesBefore ≡ map stated casesBefore
-unfolding bit sumTo toN cons? members filter hasb setOf ones onesIn trailingZeros placeOf closeOf placedOf candidates tryEach search
-before-holds = refl
