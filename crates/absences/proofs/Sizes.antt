@@ -6,6 +6,7 @@ use Prim.Native.Nat.{ℕ, suc, _+_, _-_, _≤_, _<_}
 use native.Mathlib.Nat.{sub-zero}
 use native.Mathlib.Omega.{arith}
 use Rattle.roster.specs.declared.Table.{Table}
+use Rattle.crews.specs.Filling.{filling}
 use Rattle.absences.specs.declared.Search.{Search}
 use Rattle.absences.specs.declared.Course.the-variants.{Open}
 use Rattle.absences.specs.declared.Walked.{Walked}
@@ -27,7 +28,7 @@ module _ (table : Table) (s : Search) where
     rest = from table s ((most + 1) - (k + 1)) (k + 1)
 
     abbrev tries : List ℕ → Found
-    tries = weighed table (s .task) (s .crews) (s .size)
+    tries = weighed (filling table (s .task) (s .crews) (s .size))
 
     -- no size is left
     pub sizes-end : most < k → units ≤ s .allowance → openAt units ≡ walkedBy table s units (from table s ((most + 1) - k) k)
@@ -35,7 +36,7 @@ module _ (table : Table) (s : Search) where
     sizes-end l h =
         let z : (most + 1) - k ≡ 0 = omega arith in
         walked-none (s .allowance) units (tries (from table s ((most + 1) - k) k))
-        (ap (λ (n : ℕ). tries (from table s n k)) z ∙ weighed-none table (s .task) (s .crews) (s .size)) h
+        (ap (λ (n : ℕ). tries (from table s n k)) z ∙ weighed-none (filling table (s .task) (s .crews) (s .size))) h
 
     -- the absences of this size come to c
     module _ (l : k ≤ most) (c : Walked) (h : c ≡ walkedBy table s units (onward table s k nobody)) where
@@ -49,7 +50,7 @@ module _ (table : Table) (s : Search) where
       both : walkedBy table s units (from table s ((most + 1) - k) k) ≡ walkedOf (s .allowance) units (andThen (tries (onward table s k nobody)) (tries rest))
       both =
           ap (walkedBy table s units) unrolled
-          ∙ ap (walkedOf (s .allowance) units) (weighed-append table (s .task) (s .crews) (s .size) (onward table s k nobody) rest)
+          ∙ ap (walkedOf (s .allowance) units) (weighed-append (filling table (s .task) (s .crews) (s .size)) (onward table s k nobody) rest)
 
       pub size-none : c .course ≡ Open
           → (walkedBy table s units (from table s ((most + 1) - k) k) ≡ walkedBy table s (c .units) rest) × (c .units ≤ s .allowance)

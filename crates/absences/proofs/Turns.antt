@@ -13,6 +13,7 @@ use Rattle.roster.specs.declared.Table.{Table}
 use Rattle.roster.specs.Limits.{rowLimit}
 use Rattle.roster.specs.Laws.Rank.{outweighsb}
 use Rattle.sets.specs.Arrays.{at}
+use Rattle.crews.specs.Filling.{filling}
 use Rattle.absences.specs.declared.Search.{Search}
 use Rattle.absences.specs.declared.Course.the-variants.{Open}
 use Rattle.absences.specs.declared.Prefix.{Prefix}
@@ -124,7 +125,7 @@ module _ (table : Table) (s : Search) (holds holders order : List ℕ) (lent : L
       without = onward table s wanted (passedBy f row)
 
       abbrev tries : List ℕ → Found
-      tries = weighed table P (s .crews) (s .size)
+      tries = weighed (filling table P (s .crews) (s .size))
 
       parted : onward table s wanted f ≡ with-it ++ without
       parted =
@@ -137,7 +138,7 @@ module _ (table : Table) (s : Search) (holds holders order : List ℕ) (lent : L
       both : walkedBy table s units (onward table s wanted f) ≡ walkedOf (s .allowance) units (andThen (tries with-it) (tries without))
       both =
           ap (walkedBy table s units) parted
-          ∙ ap (walkedOf (s .allowance) units) (weighed-append table P (s .crews) (s .size) with-it without)
+          ∙ ap (walkedOf (s .allowance) units) (weighed-append (filling table P (s .crews) (s .size)) with-it without)
 
       pub turn-none : c .course ≡ Open
           → (walkedBy table s units (onward table s wanted f) ≡ walkedBy table s (c .units) without) × (c .units ≤ s .allowance)
@@ -152,10 +153,10 @@ module _ (table : Table) (s : Search) (holds holders order : List ℕ) (lent : L
 pub turn-ends : (table : Table) (s : Search) (wanted : ℕ) (f : Prefix) (units : ℕ) → s .rows ≡ table .rows → s .rows - f .next < wanted
     → units ≤ s .allowance → openAt units ≡ walkedBy table s units (onward table s wanted f)
 turn-ends table s wanted f units e l h =
-    walked-none (s .allowance) units (weighed table (s .task) (s .crews) (s .size) (onward table s wanted f))
-    (ap (weighed table (s .task) (s .crews) (s .size))
+    walked-none (s .allowance) units (weighed (filling table (s .task) (s .crews) (s .size)) (onward table s wanted f))
+    (ap (weighed (filling table (s .task) (s .crews) (s .size)))
     (listed-short (wayOf (s .skipping)) table (s .task) (table .rows - f .next) wanted (f .next) (f .absent) (omega arith))
-    ∙ weighed-none table (s .task) (s .crews) (s .size))
+    ∙ weighed-none (filling table (s .task) (s .crews) (s .size)))
     h
 
 -- no row is wanted any more: the absence itself
