@@ -8,4 +8,5 @@ pub mod More
 -- that the definitions mean what 01 says, and the demands
 pub mod Laws
 -- what the private functions of the walk are held to
+pub mod Opens
 pub mod Walk
