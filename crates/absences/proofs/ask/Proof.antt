@@ -1,5 +1,5 @@
 -- A refused question is answered by its refusal. For an admitted one, what is worked out of the table is what the search is to be lent
--- (`lends`, `ranks`, `weighs`), and what it tries is all that 01 lists. Assumes nothing.
+-- (`lends`, `ranks`), and what it tries is all that 01 lists. Assumes nothing.
 use mathlib.Core.Path.{_≡_, refl, sym, ap, _∙_}
 use mathlib.Core.List.{List}
 use Prim.Native.Nat.{ℕ, _≤_, _<_}
@@ -13,9 +13,9 @@ use Rattle.roster.specs.declared.Ruling.the-variants.{Admitted}
 use Rattle.roster.specs.Refusals.{policyRuling}
 use Rattle.roster.specs.Laws.Rulings as rulings
 use Rattle.absences.specs.declared.Search.{Search}
-use Rattle.absences.specs.Tried.{rowAt}
+use Rattle.absences.specs.Tried.{Way, rowAt}
 use Rattle.absences.specs.Laws.Rows.{rowAt-lt}
-use Rattle.absences.specs.Walk.{wayOf, Within, Counted, Lent, Ranked, Weights, searchedBy}
+use Rattle.absences.specs.Inner.Walk.{wayOf, Within, Counted, Lent, Ranked, searchedBy}
 use Rattle.absences.proofs.Rank.{within-of, counted-of, order-at, weight-at}
 use Rattle.absences.proofs.Replied.{ruled}
 use Rattle.absences.proofs.ask.Statement.{statement}
@@ -106,18 +106,15 @@ asked c = c .before .before .before .before .before .before .before .before .bef
 
 abbrev searching : tie.After-smaller → Search
 searching c = record {
-  skipping = start (begun (asked c)) .args .skipping;
   task = task (asked c);
   crews = start (begun (asked c)) .args .crews;
   size = start (begun (asked c)) .args .size;
-  rows = table (asked c) .rows;
   everyone = c .before .before .before .before .before .below .result;
   allowance = start (begun (asked c)) .args .allowance;
 }
 
 lends : (c : tie.After-smaller) → Lent (table (asked c)) (searching c) (holds (asked c)) (asked c .before .before .before .holders-of .result)
 lends c = record {
-  rows = refl;
   small = small (asked c);
   everyone = c .before .before .before .before .before .below .ensures ∙ below-within 64 _ (small (asked c));
   few = limits (begun (asked c)) .few;
@@ -127,21 +124,22 @@ lends c = record {
   holding = asked c .before .before .before .holders-of .ensures .0;
 }
 
-ranks : (c : tie.After-smaller) → Ranked (table (asked c)) (searching c) (c .before .before .before .before .before .before .before .before .before .ranked .result)
-ranks c = record { rows = refl; small = small (asked c); ranked = ordered (c .before .before .before .before .before .before .before .before .before) }
+abbrev way : tie.After-counts → Way
+way k = wayOf (start (begun k) .args .skipping)
 
-weighs : (c : tie.After-smaller) → Weights (table (asked c)) (searching c) (c .before .before .before .before .before .before .weights .result)
-weighs c = record {
-  weights = λ r l.
+ranks : (c : tie.After-smaller) → Ranked (way (asked c)) (table (asked c)) (task (asked c)) (c .before .before .before .before .before .before .before .before .before .ranked .result) (c .before .before .before .before .before .before .weights .result)
+ranks c = record {
+  row = ordered (c .before .before .before .before .before .before .before .before .before);
+  closes = λ r l.
       c .before .before .before .before .before .before .weights .ensures r l
       ∙ weight-at (table (asked c)) (task (asked c)) (table (asked c) .rows) (holds (asked c)) (within (asked c)) (c .before .before .before .before .before .before .before .before .before .ranked .result)
-      (ordered (c .before .before .before .before .before .before .before .before .before)) (searching c .skipping) r l;
+      (ordered (c .before .before .before .before .before .before .before .before .before)) (start (begun (asked c)) .args .skipping) r l;
 }
 
 search-all-requires : tie.Need-search-all-requires
 search-all-requires c κs =
     let within = limits (begun (asked c)) in
-    ((table (asked c), lends c, ranks c, weighs c), omega (arith, c .smaller .ensures, within .rows, within .away))
+    ((way (asked c), table (asked c), lends c, ranks c), omega (arith, c .smaller .ensures, within .rows, within .away))
 
 -- ---- the two replies
 
@@ -157,9 +155,9 @@ returns-2 : tie.Need-returns-2
 returns-2 c =
     let k = c .before in
     let a = start (begun (asked k)) .args in
-    c .search-all .ensures (a .table) (lends k) (ranks k) (weighs k)
-    ∙ ap (λ (n : ℕ). searchedBy (a .table) (searching k) n) (k .smaller .ensures)
-    ∙ sym (ruled (wayOf (a .skipping)) (a .table) (a .task) (a .away) (a .crews) (a .size) (a .allowance) _ (admitted (begun (asked k))))
+    c .search-all .ensures (way (asked k)) (a .table) (lends k) (ranks k)
+    ∙ ap (λ (n : ℕ). searchedBy (way (asked k)) (a .table) (searching k) n) (k .smaller .ensures)
+    ∙ sym (ruled (way (asked k)) (a .table) (a .task) (a .away) (a .crews) (a .size) (a .allowance) _ (admitted (begun (asked k))))
 
 pub ask-spec : {M : Type 1} → statement M
 ask-spec =
