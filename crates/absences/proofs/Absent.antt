@@ -48,12 +48,12 @@ module _ (table : Table) (s : Search) (holds holders : List ℕ) (lent : Lent ta
       sym (and-mask (s .everyone) 64 ∙ mod-eq-of-lt wide)
 
 -- whether it blocks or not
-alone-costs : (table : Table) (P d t A : ℕ) → weighed table P d t (A ∷ []) .need ≡ unitsOf (filling table P d t A)
+alone-costs : (table : Table) (P d t A : ℕ) → weighed (filling table P d t) (A ∷ []) .need ≡ unitsOf (filling table P d t A)
 alone-costs table P d t A =
     let n = unitsOf (filling table P d t A) in
     ⊎-elim
-    (λ b. ap (λ (w : Found). w .need) (weighed-fits table P d t A [] b ∙ ap (dearer n) (weighed-none table P d t)) ∙ add-zero n)
-    (λ b. ap (λ (w : Found). w .need) (weighed-blocks table P d t A [] b))
+    (λ b. ap (λ (w : Found). w .need) (weighed-fits (filling table P d t) A [] b ∙ ap (dearer n) (weighed-none (filling table P d t))) ∙ add-zero n)
+    (λ b. ap (λ (w : Found). w .need) (weighed-blocks (filling table P d t) A [] b))
     (either (filling table P d t A .found))
 
 module _ (table : Table) (P d t most spent A : ℕ) (r : Filled) (e : r ≡ filledOf most (spent + perAbsence) (filling table P d t A)) where
@@ -61,7 +61,7 @@ module _ (table : Table) (P d t most spent A : ℕ) (r : Filled) (e : r ≡ fill
   o = filling table P d t A
 
   abbrev alone : Found
-  alone = weighed table P d t (A ∷ [])
+  alone = weighed (filling table P d t) (A ∷ [])
 
   alone-need : alone .need ≡ unitsOf o
   alone-need = alone-costs table P d t A
@@ -85,8 +85,8 @@ module _ (table : Table) (P d t most spent A : ℕ) (r : Filled) (e : r ≡ fill
       go : steps.Judged most (spent + perAbsence) o r → walkedFrom (r .ending) A (r .units) ≡ walkedOf most spent alone
       go (steps.is-complete b w h) =
           told ending.Complete w
-          ∙ fits _ (weighed-fits table P d t A [] b ∙ ap (dearer (unitsOf o)) (weighed-none table P d t)) h
-      go (steps.is-exhausted b w u l) = told ending.Exhausted w ∙ fits _ (weighed-blocks table P d t A [] b) (omega arith)
+          ∙ fits _ (weighed-fits (filling table P d t) A [] b ∙ ap (dearer (unitsOf o)) (weighed-none (filling table P d t))) h
+      go (steps.is-exhausted b w u l) = told ending.Exhausted w ∙ fits _ (weighed-blocks (filling table P d t) A [] b) (omega arith)
       go (steps.is-over h w) =
           told ending.Undecided w
           ∙ ap undecidedAt (ap (λ (x : Filled). x .units) (e ∙ steps.filled-over most (spent + perAbsence) o h))
@@ -94,6 +94,6 @@ module _ (table : Table) (P d t most spent A : ℕ) (r : Filled) (e : r ≡ fill
 
 -- too few units are left to try it
 pub absent-spent : (table : Table) (P d t most spent A : ℕ) → most < spent + perAbsence
-    → undecidedAt most ≡ walkedOf most spent (weighed table P d t (A ∷ []))
+    → undecidedAt most ≡ walkedOf most spent (weighed (filling table P d t) (A ∷ []))
 absent-spent table P d t most spent A l =
-    sym (walked-over most spent (weighed table P d t (A ∷ [])) (omega (arith, alone-costs table P d t A)))
+    sym (walked-over most spent (weighed (filling table P d t) (A ∷ [])) (omega (arith, alone-costs table P d t A)))
