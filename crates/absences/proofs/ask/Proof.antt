@@ -1,6 +1,6 @@
 -- A refused question is answered by its refusal. For an admitted one, what is worked out of the table is what the search is to be lent
 -- (`lends`, `ranks`), and what it tries is all that 01 lists. Assumes nothing.
-use mathlib.Core.Path.{_≡_, refl, sym, ap, _∙_}
+use mathlib.Core.Path.{_≡_, sym, ap, _∙_}
 use mathlib.Core.List.{List}
 use Prim.Native.Nat.{ℕ, _≤_, _<_}
 use native.Mathlib.Omega.{arith}

@@ -19,9 +19,9 @@ use Rattle.roster.specs.declared.Verdict.the-variants.{Yes, No, Undecided}
 use Rattle.roster.specs.declared.Reply.{Reply}
 use Rattle.crews.specs.Laws.Sound.{Eight, none-at}
 use Rattle.absences.specs.Tried.{Way}
-use Rattle.absences.specs.Asked.{Admits, needPolicy, PolicyReply}
+use Rattle.absences.specs.Asked.{Admits, needPolicy, PolicyReply, Tells}
 use Rattle.absences.specs.Laws.Decided.{Case, is-refused, is-undecided, is-yes, is-no, admitted-fair, policy-case}
-use Rattle.absences.specs.Laws.Demands.{Tells, policy-exactly}
+use Rattle.absences.specs.Laws.Demands.{policy-exactly}
 use Rattle.printed.specs.Laws.Lines.{never, Worded, says-yes, says-no, says-undecided}
 use Rattle.printed.specs.Laws.Sets.{NoneBehind}
 
