@@ -12,11 +12,13 @@ use Rattle.roster.specs.Limits.{rowLimit}
 use Rattle.roster.specs.declared.Ruling.the-variants.{Admitted}
 use Rattle.roster.specs.Refusals.{policyRuling}
 use Rattle.roster.specs.Laws.Rulings as rulings
+use Rattle.sets.specs.Arrays.{tabulate}
+use Rattle.crews.specs.Filling.{holdsOf}
 use Rattle.absences.specs.declared.Search.{Search}
 use Rattle.absences.specs.Tried.{Way, rowAt}
 use Rattle.absences.specs.Laws.Rows.{rowAt-lt}
-use Rattle.absences.specs.Inner.Walk.{wayOf, Within, Counted, Lent, Ranked, searchedBy}
-use Rattle.absences.proofs.Rank.{within-of, counted-of, order-at, weight-at}
+use Rattle.absences.specs.Inner.Walk.{wayOf, Counted, Lent, Ranked, searchedBy}
+use Rattle.absences.proofs.Rank.{counted-of, order-at, weight-at}
 use Rattle.absences.proofs.Replied.{ruled}
 use Rattle.absences.proofs.ask.Statement.{statement}
 use Rattle.absences.proofs.ask.Tie as tie
@@ -73,11 +75,11 @@ module _ (k : tie.After-counts) where
   small : table .rows ≤ rowLimit
   small = limits begun .rows
 
-  within : Within table task (table .rows) holds
-  within = within-of table task small holds (k .before .before .before .before .before .holdings-within .ensures)
+  held : holds ≡ tabulate rowLimit (holdsOf table task)
+  held = k .before .before .before .before .before .holdings-within .ensures
 
   counted : Counted table task (table .rows) (k .before .counted .result)
-  counted = counted-of table task small holds (k .before .counted .result) within (k .before .counted .ensures)
+  counted = counted-of table task small holds (k .before .counted .result) held (k .before .counted .ensures)
 
 ranked-requires : tie.Need-ranked-requires
 ranked-requires c κs = (small c, (table c, task c, counted c))
@@ -120,7 +122,7 @@ lends c = record {
   few = limits (begun (asked c)) .few;
   some = limits (begun (asked c)) .task;
   wide = start (begun (asked c)) .fits .task .fits;
-  held = asked c .before .before .before .before .before .holdings-within .ensures;
+  held = held (asked c);
   holding = asked c .before .before .before .holders-of .ensures .0;
 }
 
@@ -132,7 +134,7 @@ ranks c = record {
   row = ordered (c .before .before .before .before .before .before .before .before .before);
   closes = λ r l.
       c .before .before .before .before .before .before .weights .ensures r l
-      ∙ weight-at (table (asked c)) (task (asked c)) (table (asked c) .rows) (holds (asked c)) (within (asked c)) (c .before .before .before .before .before .before .before .before .before .ranked .result)
+      ∙ weight-at (table (asked c)) (task (asked c)) (small (asked c)) (holds (asked c)) (c .before .before .before .before .before .before .before .before .before .ranked .result) (held (asked c))
       (ordered (c .before .before .before .before .before .before .before .before .before)) (start (begun (asked c)) .args .skipping) r l;
 }
 
