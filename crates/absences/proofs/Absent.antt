@@ -13,7 +13,7 @@ use Rattle.roster.specs.Limits.{rowLimit}
 use Rattle.crews.specs.declared.Ending.{Ending}
 use Rattle.crews.specs.declared.Ending.the-variants as ending
 use Rattle.crews.specs.declared.Filled.{Filled}
-use Rattle.crews.specs.Filling.{Outcome, plainly, holdersOf, filling}
+use Rattle.crews.specs.Filling.{Outcome, orderly, holdersOf, filling}
 use Rattle.sets.specs.Arrays.{tabulate, at}
 use Rattle.crews.specs.Filled.{filledOf, foundFrom}
 use Rattle.crews.specs.Laws.Arrays.{lent-filling}
@@ -27,16 +27,16 @@ use Rattle.absences.proofs.Spent.{undecidedAt, walked-fits, walked-over
 -- filling from what is lent is 01's filling with A absent
 module _ (table : Table) (s : Search) (holds holders : List ℕ) (lent : Lent table s holds holders) where
   fills : (free A : ℕ) → free ≡ bitAnd (s .everyone) ((2 ^ rowLimit - 1) - A)
-      → foundFrom (plainly (at holds) (at holders) (s .task) (s .crews) (s .size)) free ≡ filling table (s .task) (s .crews) (s .size) A
+      → foundFrom (orderly (at holds) (at holders) (s .task) (s .crews) (s .size)) free ≡ filling table (s .task) (s .crews) (s .size) A
   fills free A e =
-      ap₂ (λ (h k : List ℕ). foundFrom (plainly (at h) (at k) (s .task) (s .crews) (s .size)) free) (lent .held)
+      ap₂ (λ (h k : List ℕ). foundFrom (orderly (at h) (at k) (s .task) (s .crews) (s .size)) free) (lent .held)
       (lent .holding ∙ ap (λ (h : List ℕ). tabulate 32 (holdersOf (at h))) (lent .held))
       ∙ ap (foundFrom _) (e ∙ ap (λ (all : ℕ). bitAnd all ((2 ^ rowLimit - 1) - A)) (lent .everyone))
       ∙ lent-filling table (s .task) (s .crews) (s .size) A (lent .small) (lent .some) (lent .wide) (lent .few)
 
   -- so what `fill` answers is what the definition says of A, if the units it began with are those spent before and what an absence costs
   pub answered : (most spent n free A : ℕ) (r : Filled)
-      → r ≡ filledOf most n (foundFrom (plainly (at holds) (at holders) (s .task) (s .crews) (s .size)) free)
+      → r ≡ filledOf most n (foundFrom (orderly (at holds) (at holders) (s .task) (s .crews) (s .size)) free)
       → free ≡ bitAnd (s .everyone) ((2 ^ rowLimit - 1) - A) → n ≡ spent + perAbsence
       → r ≡ filledOf most (spent + perAbsence) (filling table (s .task) (s .crews) (s .size) A)
   answered most spent n free A r e f paid = e ∙ ap₂ (filledOf most) paid (fills free A f)

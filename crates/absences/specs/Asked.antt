@@ -12,7 +12,7 @@ use Rattle.roster.specs.declared.Reply.{Reply}
 use Rattle.roster.specs.Meaning.{CrewList, Holds, FirstBlocker}
 use Rattle.roster.specs.Refusals.{policyRuling}
 use Rattle.roster.specs.Replies.{noCrews, replyWith}
-use Rattle.crews.specs.Filling.{filling}
+use Rattle.crews.specs.Filling.{filling, fillingBefore}
 use Rattle.crews.specs.Named.{firstList}
 use Rattle.crews.specs.Laws.Sound.{Eight}
 use Rattle.absences.specs.Tried.{Way, tried, Found, weighed}
@@ -68,3 +68,16 @@ pub record Tells (way : Way) (table : Table) (P s d t allowance : ℕ) (r : Repl
   pub unspent : (refusal : Refusal) → r .verdict ≡ Refused refusal → r .units ≡ 0
   pub spent : r .verdict ≡ Undecided → r .units ≡ allowance
   pub units : r .verdict ≢ Undecided → Admits table P s d t → r .units ≡ needPolicy way table P s d t
+
+-- ---- the rule of filling before, kept as the reference
+
+-- what trying its absences came to, and the first list
+abbrev pub foundBefore : Way → Table → ℕ → ℕ → ℕ → ℕ → Found
+foundBefore way table P s d t = weighed (fillingBefore table P d t) (tried way table P s)
+
+abbrev pub firstBefore : Table → ℕ → ℕ → ℕ → ℕ → List ℕ
+firstBefore table P d t A = fillingBefore table P d t A .crews
+
+-- what might come back by that rule
+abbrev pub PolicyReplyBefore : Way → Table → ℕ → ℕ → ℕ → ℕ → ℕ → Reply → Type 0
+PolicyReplyBefore way table P s d t = PolicyReplyBy (foundBefore way table P s d t) (firstBefore table P d t 0) table P s d t

@@ -214,9 +214,10 @@ module _ (table : Table) (P s d t : ℕ) (wide : P < 2 ^ 32) where
   abbrev Alike : Reply → Reply → Type 0
   Alike r q = (r .verdict ≡ q .verdict) × (r .crews ≡ q .crews) × (r .blocker ≡ q .blocker)
 
-  pub decided-alike : (w v : Found) (crews : List ℕ) (a b : ℕ) (r q : Reply) → PolicyReplyBy w crews table P s d t a r
-      → PolicyReplyBy v crews table P s d t b q → r .verdict ≢ Undecided → q .verdict ≢ Undecided → Alike r q
-  decided-alike w v crews a b r q k m dr dq = go (policy-case (w .need) table P s d t wide a) (policy-case (v .need) table P s d t wide b)
+  pub decided-alike : (w v : Found) (crews list : List ℕ) → (Admits table P s d t → crews ≡ list) → (a b : ℕ) (r q : Reply)
+      → PolicyReplyBy w crews table P s d t a r → PolicyReplyBy v list table P s d t b q
+      → r .verdict ≢ Undecided → q .verdict ≢ Undecided → Alike r q
+  decided-alike w v crews list same a b r q k m dr dq = go (policy-case (w .need) table P s d t wide a) (policy-case (v .need) table P s d t wide b)
     where
       alike : {x y : Reply} → r ≡ x → q ≡ y → Alike x y → Alike r q
       alike i j (f, g, h) = (
@@ -230,7 +231,7 @@ module _ (table : Table) (P s d t : ℕ) (wide : P < 2 ^ 32) where
       go (is-undecided e l) c = absurd (dr (ap Reply.verdict (k .undecided e l)))
       go (is-yes e l h) (is-refused n f) = never (cc)
       go (is-yes e l h) (is-undecided f j) = absurd (dq (ap Reply.verdict (m .undecided f j)))
-      go (is-yes e l h) (is-yes f j i) = alike (k .yes e l h) (m .yes f j i) (refl, refl, refl)
+      go (is-yes e l h) (is-yes f j i) = alike (k .yes e l h) (m .yes f j i) (refl, same e, refl)
       go (is-yes e l h) (is-no f j B i) = absurd (first-not-holds table P s d t B i h)
       go (is-no e l A h) (is-refused n f) = never (cc)
       go (is-no e l A h) (is-undecided f j) = absurd (dq (ap Reply.verdict (m .undecided f j)))
@@ -262,7 +263,9 @@ module _ (table : Table) (P s d t : ℕ) (wide : P < 2 ^ 32) where
   -- "the search that skips and the search that skips nothing give the same verdict, crews and blocker whenever both decide"
   pub demand-3-same : (a b : ℕ) (r q : Reply) → PolicyReply full table P s d t a r → PolicyReply skipping table P s d t b q
       → r .verdict ≢ Undecided → q .verdict ≢ Undecided → (r .verdict ≡ q .verdict) × (r .crews ≡ q .crews) × (r .blocker ≡ q .blocker)
-  demand-3-same = decided-alike (found full table P s d t) (found skipping table P s d t) (firstList table P d t 0)
+  demand-3-same =
+      let crews : List ℕ = firstList table P d t 0 in
+      decided-alike (found full table P s d t) (found skipping table P s d t) crews crews (λ e. refl)
 
   -- "with no more work counted": the first blocker is worth trying, so what is skipped before it only costs the other search units
   pub demand-3-need : Admits table P s d t → needPolicy skipping table P s d t ≤ needPolicy full table P s d t
