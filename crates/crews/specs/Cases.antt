@@ -1,6 +1,7 @@
 -- Filling crews, run: one table of tables, tasks and absences with the crews that are filled and the placements that it takes, and one
--- theorem: the definition gives these. Wherever 01 makes a choice, some case here moves with another one: which permission, which
--- candidate, when a crew is closed, when and how far to go back, and what is counted. Nothing but the definition runs.
+-- theorem: the definition gives these. Wherever the rules make a choice, some case here moves with another one: which permission, which
+-- candidate, which row begins a crew, when a crew is closed, when and how far to go back, and what is counted. Nothing but the definition
+-- runs.
 use mathlib.Core.Path.{_≡_, refl}
 use mathlib.Core.Bool.{true, false}
 use mathlib.Core.List.{List, [], _∷_, _++_, map}
@@ -73,6 +74,14 @@ cases =
     ∷ filled (tableOf (1 ∷ 3 ∷ 3 ∷ 0 ∷ 3 ∷ 3 ∷ 2 ∷ 3 ∷ 3 ∷ 3 ∷ 3 ∷ [])) 3 [] 8 1
     gives crews ((1 ∷ []) ∷ (2 ∷ []) ∷ (4 ∷ []) ∷ (5 ∷ []) ∷ (7 ∷ []) ∷ (8 ∷ []) ∷ (9 ∷ []) ∷ (10 ∷ []) ∷ []) 9
     ∷ filled (tableOf (2 ^ 31 ∷ 0 ∷ 2 ^ 30 ∷ [])) (3 * 2 ^ 30) [] 1 64 gives crews ((0 ∷ 2 ∷ []) ∷ []) 2
+    -- crews begin in ascending order: book B's third policy; none but the first placed is bound, so that row 0 comes second; seven equal rows
+    ∷ filled H 3 [] 3 1 gives none 5
+    ∷ filled (tableOf (2 ∷ 3 ∷ 1 ∷ [])) 3 [] 2 2 gives crews ((1 ∷ []) ∷ (0 ∷ 2 ∷ []) ∷ []) 3
+    ∷ filled (tableOf (1 ∷ 3 ∷ [])) 3 [] 2 1 gives none 2
+    ∷ filled (tableOf (1 ∷ 1 ∷ 1 ∷ 1 ∷ 1 ∷ 1 ∷ 1 ∷ [])) 1 [] 8 1 gives none 127
+    ∷ filled (tableOf (1 ∷ 2 ∷ 3 ∷ 1 ∷ 2 ∷ [])) 3 [] 3 2 gives crews ((0 ∷ 1 ∷ []) ∷ (2 ∷ []) ∷ (3 ∷ 4 ∷ []) ∷ []) 5
+    ∷ filled (tableOf (1 ∷ 2 ∷ 3 ∷ 1 ∷ 2 ∷ [])) 3 [] 4 2 gives none 27
+    ∷ filled (tableOf (5 ∷ 3 ∷ 5 ∷ 3 ∷ 6 ∷ [])) 7 [] 3 3 gives none 59
     ∷ []
 
 -- ---- the fact

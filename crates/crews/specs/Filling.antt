@@ -125,17 +125,21 @@ holdsOf table P u = elim (leb (table .rows) u) [ true ↦ 0 | false ↦ held tab
 abbrev pub holdersOf : (ℕ → ℕ) → ℕ → ℕ
 holdersOf holds p = setOf rowLimit (λ u. hasb (holds u) p)
 
--- "The first row placed in a crew must now have a higher row number than the first row of the crew before", and a crew that covers closes.
-abbrev pub orderly : (ℕ → ℕ) → (ℕ → ℕ) → ℕ → ℕ → ℕ → Work
-orderly holds holders P d t = record {
+-- the work where this says which rows may begin a crew; a crew that covers closes
+abbrev pub workBy : (Filling → ℕ → Bool) → (ℕ → ℕ) → (ℕ → ℕ) → ℕ → ℕ → ℕ → Work
+workBy begins holds holders P d t = record {
   holds = holds;
   holders = holders;
   task = P;
   crews = d;
   size = t;
-  begins = λ f u. leb (f .from) u;
+  begins = begins;
   closes = λ f. true;
 }
+
+-- "The first row placed in a crew must now have a higher row number than the first row of the crew before."
+abbrev pub orderly : (ℕ → ℕ) → (ℕ → ℕ) → ℕ → ℕ → ℕ → Work
+orderly holds holders P d t = workBy (λ f u. leb (f .from) u) holds holders P d t
 
 abbrev pub workOf : Table → ℕ → ℕ → ℕ → Work
 workOf table P d t = orderly (holdsOf table P) (holdersOf (holdsOf table P)) P d t
@@ -152,15 +156,7 @@ filling table P d t A = searchFrom (workOf table P d t) (present table A)
 
 -- any row may begin a crew
 abbrev pub plainly : (ℕ → ℕ) → (ℕ → ℕ) → ℕ → ℕ → ℕ → Work
-plainly holds holders P d t = record {
-  holds = holds;
-  holders = holders;
-  task = P;
-  crews = d;
-  size = t;
-  begins = λ f u. true;
-  closes = λ f. true;
-}
+plainly holds holders P d t = workBy (λ f u. true) holds holders P d t
 
 abbrev pub workBefore : Table → ℕ → ℕ → ℕ → Work
 workBefore table P d t = plainly (holdsOf table P) (holdersOf (holdsOf table P)) P d t

@@ -6,7 +6,7 @@ use mathlib.Core.Logic.{_≢_}
 use mathlib.Core.List.{List}
 use Prim.Native.Nat.{ℕ, _^_, _<_}
 use native.Mathlib.Omega.{arith}
-use lib.Count.{ones, trailingZeros}
+use lib.Count.{trailingZeros}
 use lib.ListN.{getD}
 use Rattle.sets.specs.Sets.{bit, Has}
 use Rattle.roster.specs.declared.Table.{Table}

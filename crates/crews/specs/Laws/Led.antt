@@ -4,21 +4,21 @@
 use mathlib.Core.Path.{_≡_, refl, sym, ap, _∙_, subst}
 use mathlib.Core.Bool.{Bool, true, false, true≢false}
 use mathlib.Core.Logic.{_⊎_, inl, inr, ⊎-elim, _≢_}
-use mathlib.Core.List.{List, [], _∷_, List·Memᴰ, List·Memᴰ·head, List·Memᴰ·tail, List·Memᴰ·cases-cons, List·Memᴰ·not-nil}
+use mathlib.Core.List.{List, [], _∷_, List·Memᴰ, List·Memᴰ·head, List·Memᴰ·tail, List·Memᴰ·cases-cons}
 use Prim.Native.Nat.{ℕ, zero, suc, _+_, _≤_, _<_}
 use native.Mathlib.Decide.{decLt, ℕ-discrete}
 use native.Mathlib.Omega.{arith}
 use lib.Count.{ones}
 use lib.ListN.{getD}
-use Rattle.sets.specs.Sets.{bit, Has}
+use Rattle.sets.specs.Sets.{Has}
 use Rattle.sets.specs.Members.{Ascends}
 use Rattle.sets.specs.Laws.Sums.{either}
 use Rattle.crews.specs.declared.Filling.{Filling}
 use Rattle.crews.specs.Filling.{Work, Outcome, placeOf, closeOf, placedOf, candidates, tryEach, search, begin}
-use Rattle.crews.specs.Laws.Search.{putOf, placed-is, Candidate, Tried, candidate-of, candidates-ascend, ascends-mem, among, search-is}
+use Rattle.crews.specs.Laws.Search.{placed-is, Tried, candidate-of, candidates-ascend, ascends-mem, among, search-is}
 use Rattle.crews.specs.Laws.Sound.{crew}
 use Rattle.crews.specs.Laws.Complete.{Ready}
-use Rattle.crews.specs.Laws.Barren.{lead, Keeps, Reach, Found, later-placed, joined-placed, fewer-placed, reach-placed, reach-begin, rest-free, wanted-first, first-candidate, barren, found-list}
+use Rattle.crews.specs.Laws.Barren.{lead, Reach, Found, later-placed, joined-placed, fewer-placed, reach-placed, reach-begin, rest-free, wanted-first, first-candidate, barren, found-list}
 
 -- ---- the candidate that leads to the list: those below it led to none
 

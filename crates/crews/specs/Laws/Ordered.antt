@@ -5,7 +5,7 @@
 use mathlib.Core.Path.{_≡_, refl, sym, ap, _∙_, subst}
 use mathlib.Core.Bool.{true, false}
 use mathlib.Core.Logic.{⊎-elim, _≢_}
-use mathlib.Core.List.{List, [], _∷_, List·Memᴰ, List·Memᴰ·head, List·Memᴰ·tail, List·Memᴰ·cases-cons, List·Memᴰ·not-nil}
+use mathlib.Core.List.{List, [], _∷_, List·Memᴰ, List·Memᴰ·head, List·Memᴰ·tail, List·Memᴰ·cases-cons}
 use Prim.Native.Nat.{ℕ, zero, suc, _+_, _≤_, _<_}
 use native.Mathlib.Decide.{decLt, ℕ-discrete}
 use native.Mathlib.Omega.{arith}
@@ -60,19 +60,19 @@ module _ (holds holders : ℕ → ℕ) (P d t F : ℕ) where
     dead : (c : ℕ) → c < f .from → Has (holders (lead old)) c → Has (f .free) c → Barren old F f c
 
   module _ (r : Ready old F) where
-    -- from which row on the next crew may begin
+    -- the next crew may begin right after the first row of this one
     module _ (f : Filling) (row : ℕ) where
-      from-begun : f .crew ≡ 0 → placedOf old f row .from ≡ row + 1
+      from-begun : f .crew ≡ 0 → placedOf old f row .from ≤ row + 1
       unfolding closeOf
       from-begun e =
           let first = from-first f row (holds row) e in
-          placed-is old f row (λ g. g .from ≡ row + 1) (λ z. first) (λ z. first)
+          placed-is old f row (λ g. g .from ≤ row + 1) (λ z. omega (arith, first)) (λ z. omega (arith, first))
 
-      from-going : f .crew ≢ 0 → placedOf old f row .from ≡ f .from
+      from-going : f .crew ≢ 0 → placedOf old f row .from ≤ f .from
       unfolding closeOf
       from-going n =
           let next = from-next f row (holds row) n in
-          placed-is old f row (λ g. g .from ≡ f .from) (λ z. next) (λ z. next)
+          placed-is old f row (λ g. g .from ≤ f .from) (λ z. omega (arith, next)) (λ z. omega (arith, next))
 
     -- ---- the search by either rule, one placement deeper
 
