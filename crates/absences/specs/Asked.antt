@@ -11,10 +11,9 @@ use Rattle.roster.specs.declared.Verdict.the-variants.{Yes, No, Undecided, Refu
 use Rattle.roster.specs.declared.Reply.{Reply}
 use Rattle.roster.specs.Meaning.{CrewList, Holds, FirstBlocker}
 use Rattle.roster.specs.Refusals.{policyRuling}
-use Rattle.roster.specs.Replies.{noCrews, replyWith}
+use Rattle.roster.specs.Replies.{noCrews, Eight, replyWith}
 use Rattle.crews.specs.Filling.{filling, fillingBefore}
 use Rattle.crews.specs.Named.{firstList}
-use Rattle.crews.specs.Laws.Sound.{Eight}
 use Rattle.absences.specs.Tried.{Way, tried, Found, weighed}
 
 -- "Refused, first that applies"; what nothing applies to is admitted

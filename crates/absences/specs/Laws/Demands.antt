@@ -17,11 +17,11 @@ use Rattle.roster.specs.declared.Verdict.the-variants.{Yes, No, Undecided, Refu
 use Rattle.roster.specs.declared.Reply.{Reply}
 use Rattle.roster.specs.Meaning.{CrewList, Blocks, Absence, Holds, FirstBlocker}
 use Rattle.roster.specs.Refusals.{policyRuling}
-use Rattle.roster.specs.Replies.{noCrews, replyWith}
+use Rattle.roster.specs.Replies.{noCrews, Eight, replyWith}
 use Rattle.roster.specs.Laws.Order.{first-blocker-unique}
 use Rattle.crews.specs.Filling.{filling}
 use Rattle.crews.specs.Named.{firstList}
-use Rattle.crews.specs.Laws.Sound.{Eight, none-at}
+use Rattle.crews.specs.Laws.Sound.{none-at}
 use Rattle.crews.specs.Laws.Exact.{crews-eight, crews-past, Fair, finds-list, finds-none, holds-all}
 use Rattle.absences.specs.Tried.{Way, full, skipping, Found}
 use Rattle.absences.specs.Asked.{Admits, found, needPolicy, PolicyReplyBy, PolicyReply, Tells}
