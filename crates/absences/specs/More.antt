@@ -52,7 +52,7 @@ eight = (0 ∷ []) ∷ (1 ∷ []) ∷ (2 ∷ []) ∷ (3 ∷ []) ∷ (4 ∷ []) �
 -- what both searches answer alike
 abbrev pub by-both : Way → List Example
 by-both way =
-    -- three crews, none of which is tried under another order: the third policy of book B
+    -- three crews of one, each set of them tried in one order only: the third policy of book B
     record { question = policy way H 3 0 3 1 ample; reply = no-with [] 6 }
     -- one crew, and three
     ∷ record { question = policy way W 13 0 1 1 ample; reply = yes-with ((2 ∷ []) ∷ []) 3 }

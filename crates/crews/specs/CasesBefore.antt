@@ -17,7 +17,7 @@ before =
     ∷ filled H 3 [] 3 1 gives none 9
     ∷ filled (tableOf (2 ∷ 3 ∷ 1 ∷ [])) 3 [] 2 2 gives crews ((1 ∷ []) ∷ (0 ∷ 2 ∷ []) ∷ []) 3
     ∷ filled (tableOf (1 ∷ 3 ∷ [])) 3 [] 2 1 gives none 3
-    ∷ filled (tableOf (1 ∷ 1 ∷ 1 ∷ 1 ∷ 1 ∷ [])) 1 [] 8 1 gives none 325
+    ∷ filled (tableOf (1 ∷ 1 ∷ 1 ∷ 1 ∷ [])) 1 [] 8 1 gives none 64
     ∷ filled (tableOf (1 ∷ 2 ∷ 3 ∷ 1 ∷ 2 ∷ [])) 3 [] 3 2 gives crews ((0 ∷ 1 ∷ []) ∷ (2 ∷ []) ∷ (3 ∷ 4 ∷ []) ∷ []) 5
     ∷ filled (tableOf (1 ∷ 2 ∷ 3 ∷ 1 ∷ 2 ∷ [])) 3 [] 4 2 gives none 57
     ∷ filled (tableOf (5 ∷ 3 ∷ 5 ∷ 3 ∷ 6 ∷ [])) 7 [] 3 3 gives none 124

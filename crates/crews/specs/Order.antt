@@ -1,5 +1,4 @@
--- Crews in order, without any search: what the first list is like since the first rows of crews ascend. Nothing here is proved: these are
--- definitions.
+-- Crews in order, without any search: what the first list is like. Nothing here is proved: these are definitions.
 use mathlib.Core.List.{List}
 use Prim.Native.Nat.{ℕ, _≤_, _<_}
 use lib.Count.{trailingZeros}

@@ -250,7 +250,7 @@ fn try_each(
 }
 
 // The crews filled from the free rows, where `spent` units are spent already. Crews for no permission, and more of them than a reply has room
-// for, are not looked for.
+// for, are not looked for; crews of no rows cover nothing.
 pub fn fill(
     holds: &[u32; Policy::ROWS],
     holders: &[u64; 32],

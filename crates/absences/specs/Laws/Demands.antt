@@ -43,48 +43,47 @@ replies-same w crews table P s d t wide allowance r q a b = go (policy-case (w .
     go (is-yes e l h) = a .yes e l h ∙ sym (b .yes e l h)
     go (is-no e l A f) = a .no e l A f ∙ sym (b .no e l A f)
 
-module _ (way : Way) (table : Table) (P s d t : ℕ) (wide : P < 2 ^ 32) (allowance : ℕ) where
-  abbrev need : ℕ
-  need = needPolicy way table P s d t
-
-  -- "any two replies allowed for one input are equal"
-  pub policy-same : (r q : Reply) → PolicyReply way table P s d t allowance r → PolicyReply way table P s d t allowance q → r ≡ q
-  policy-same = replies-same (found way table P s d t) (firstList table P d t 0) table P s d t wide allowance
-
-  -- and one is allowed: the one that the definition gives
-  pub policy-allowed : PolicyReply way table P s d t allowance (policyReplyOf way table P s d t allowance)
-  unfolding policyReplyOf
-  policy-allowed = record {
+-- and one is allowed: the one that the definition gives, if what trying comes to tells whether the policy holds and else its first blocker
+module _ (w : Found) (crews : List ℕ) (table : Table) (P s d t : ℕ) (one : Admits table P s d t → w .blocked ≡ true → FirstBlocker table P s d t (w .blocker))
+    (none : Admits table P s d t → w .blocked ≡ false → Holds table P s d t) (allowance : ℕ) where
+  pub reply-allowed : PolicyReplyBy w crews table P s d t allowance (repliedBy (policyRuling (table .rows) P s d t) w crews allowance)
+  reply-allowed = record {
     refused = λ refusal e. under e;
     undecided = λ e l. under e ∙ ap gives (verdict-late w allowance l);
     yes = λ e l h. under e ∙ ap gives (verdict-within w allowance false l (all-well e h (either (w .blocked))));
     no = λ e l A f. under e ∙ stopped e l A f (either (w .blocked));
   }
     where
-      w : Found
-      w = found way table P s d t
-
       gives : Verdict → Reply
-      gives = replyWith (firstList table P d t 0) (found way table P s d t .blocker) need allowance
+      gives = replyWith crews (w .blocker) (w .need) allowance
 
       under : {r : Ruling} → policyRuling (table .rows) P s d t ≡ r
-          → repliedBy (policyRuling (table .rows) P s d t) (found way table P s d t) (firstList table P d t 0) allowance
-          ≡ repliedBy r (found way table P s d t) (firstList table P d t 0) allowance
-      under e = ap (λ (x : Ruling). repliedBy x (found way table P s d t) (firstList table P d t 0) allowance) e
+          → repliedBy (policyRuling (table .rows) P s d t) w crews allowance ≡ repliedBy r w crews allowance
+      under e = ap (λ (x : Ruling). repliedBy x w crews allowance) e
 
       all-well : Admits table P s d t → Holds table P s d t → (w .blocked ≡ true) ⊎ (w .blocked ≡ false) → w .blocked ≡ false
       all-well e h (inr b) = b
-      all-well e h (inl b) =
-          absurd (first-not-holds table P s d t (w .blocker) (one-blocks way table P s d t (admitted-fair table P s d t wide e) b) h)
+      all-well e h (inl b) = absurd (first-not-holds table P s d t (w .blocker) (one e b) h)
 
-      stopped : Admits table P s d t → need ≤ allowance → (A : ℕ) → FirstBlocker table P s d t A
-          → (w .blocked ≡ true) ⊎ (w .blocked ≡ false) → gives (verdictOf w allowance) ≡ replyWith noCrews A need allowance No
+      stopped : Admits table P s d t → w .need ≤ allowance → (A : ℕ) → FirstBlocker table P s d t A
+          → (w .blocked ≡ true) ⊎ (w .blocked ≡ false) → gives (verdictOf w allowance) ≡ replyWith noCrews A (w .need) allowance No
       stopped e l A f (inl b) =
-          let one = one-blocks way table P s d t (admitted-fair table P s d t wide e) b in
           ap gives (verdict-within w allowance true l b)
-          ∙ ap (λ (x : ℕ). replyWith noCrews x need allowance No) (first-blocker-unique table P s d t (w .blocker) A one f)
-      stopped e l A f (inr b) =
-          absurd (first-not-holds table P s d t A f (none-blocks way table P s d t (admitted-fair table P s d t wide e) b))
+          ∙ ap (λ (x : ℕ). replyWith noCrews x (w .need) allowance No) (first-blocker-unique table P s d t (w .blocker) A (one e b) f)
+      stopped e l A f (inr b) = absurd (first-not-holds table P s d t A f (none e b))
+
+-- by either search
+module _ (way : Way) (table : Table) (P s d t : ℕ) (wide : P < 2 ^ 32) (allowance : ℕ) where
+  -- "any two replies allowed for one input are equal"
+  pub policy-same : (r q : Reply) → PolicyReply way table P s d t allowance r → PolicyReply way table P s d t allowance q → r ≡ q
+  policy-same = replies-same (found way table P s d t) (firstList table P d t 0) table P s d t wide allowance
+
+  pub policy-allowed : PolicyReply way table P s d t allowance (policyReplyOf way table P s d t allowance)
+  unfolding policyReplyOf
+  policy-allowed =
+      reply-allowed (found way table P s d t) (firstList table P d t 0) table P s d t
+      (λ e. one-blocks way table P s d t (admitted-fair table P s d t wide e)) (λ e. none-blocks way table P s d t (admitted-fair table P s d t wide e))
+      allowance
 
   -- a reply that is allowed is this one
   pub policy-is : (r : Reply) → PolicyReply way table P s d t allowance r → r ≡ policyReplyOf way table P s d t allowance
