@@ -1,61 +1,22 @@
 -- The first list is in order: each crew is begun with its lowest holder of P's lowest permission, and every holder in a later crew is higher.
 -- The idea: the row that begins a crew is the first that leads to a list; a lower holder was tried before it and led to none, so it is in no
 -- crew of the list from there on (`barren`). Assumes nothing.
-use mathlib.Core.Path.{_≡_, refl, sym, ap, _∙_, subst}
-use mathlib.Core.Bool.{Bool, true, false, true≢false}
-use mathlib.Core.Logic.{_⊎_, inl, inr, ⊎-elim, _≢_}
-use mathlib.Core.List.{List, [], _∷_, List·Memᴰ, List·Memᴰ·head, List·Memᴰ·tail, List·Memᴰ·cases-cons}
+use mathlib.Core.Path.{_≡_, refl, sym, subst}
+use mathlib.Core.Bool.{true, true≢false}
+use mathlib.Core.Logic.{_⊎_, inl, inr, _≢_}
+use mathlib.Core.List.{List}
 use Prim.Native.Nat.{ℕ, zero, suc, _+_, _≤_, _<_}
 use native.Mathlib.Decide.{decLt, ℕ-discrete}
 use native.Mathlib.Omega.{arith}
 use lib.Count.{ones}
 use lib.ListN.{getD}
 use Rattle.sets.specs.Sets.{Has}
-use Rattle.sets.specs.Members.{Ascends}
-use Rattle.sets.specs.Laws.Sums.{either}
 use Rattle.crews.specs.declared.Filling.{Filling}
 use Rattle.crews.specs.Filling.{Work, Outcome, placeOf, closeOf, placedOf, candidates, tryEach, search, begin}
-use Rattle.crews.specs.Laws.Search.{placed-is, Tried, candidate-of, candidates-ascend, ascends-mem, among, search-is}
+use Rattle.crews.specs.Laws.Search.{placed-is, Tried, candidate-of, candidates-ascend, among, First, first, search-is}
 use Rattle.crews.specs.Laws.Sound.{crew}
 use Rattle.crews.specs.Laws.Complete.{Ready}
 use Rattle.crews.specs.Laws.Barren.{lead, Reach, Found, later-placed, joined-placed, fewer-placed, reach-placed, reach-begin, rest-free, wanted-first, first-candidate, barren, found-list}
-
--- ---- the candidate that leads to the list: those below it led to none
-
-module _ (deeper : Filling → Outcome) (w : Work) (f : Filling) where
-  abbrev leads : ℕ → Bool
-  leads row = deeper (placedOf w f row) .found
-
-  record First (rows : List ℕ) : Type 0 where
-    row : ℕ
-    mem : List·Memᴰ row rows
-    works : leads row ≡ true
-    crews : tryEach deeper w f rows .crews ≡ deeper (placedOf w f row) .crews
-    before : (c : ℕ) → List·Memᴰ c rows → c < row → leads c ≡ false
-
-  first : (k : ℕ) (rows : List ℕ) → Ascends k rows → tryEach deeper w f rows .found ≡ true → First rows
-  unfolding tryEach
-  first k [] a e = absurd (true≢false (sym e))
-  first k (x ∷ rest) a e =
-      ⊎-elim
-      (λ (h : leads x ≡ true). record {
-        row = x;
-        mem = List·Memᴰ·head refl;
-        works = h;
-        crews = rw (h, tryEach);
-        before = λ c m l.
-            ⊎-elim (λ i. absurd (omega (arith, i))) (λ i. absurd (omega (arith, ascends-mem (suc x) rest (a .1) c i))) (List·Memᴰ·cases-cons m);
-      })
-      (λ (h : leads x ≡ false).
-      let y = first (suc x) rest (a .1) (rw (h, tryEach) at e) in
-      record {
-        row = y .row;
-        mem = List·Memᴰ·tail (y .mem);
-        works = y .works;
-        crews = rw (h, tryEach) (y .crews);
-        before = λ c m l. ⊎-elim (λ i. ap leads i ∙ h) (λ i. y .before c i l) (List·Memᴰ·cases-cons m);
-      })
-      (either (leads x))
 
 -- ---- the crews of the first list
 

@@ -158,16 +158,37 @@ module _ (deeper : Filling → Outcome) (w : Work) (f : Filling) where
       (List·Memᴰ·cases-cons m)))
       (either (leads x))
 
-  -- where one is found, some candidate's placement led to it
-  pub try-from : (rows : List ℕ) → tryEach deeper w f rows .found ≡ true
-      → (row : ℕ) × List·Memᴰ row rows × (leads row ≡ true) × (tryEach deeper w f rows .crews ≡ deeper (placedOf w f row) .crews)
+  -- where one is found, the placement of some candidate led to it, and those below it led to none
+  pub record First (rows : List ℕ) : Type 0 where
+    pub row : ℕ
+    pub mem : List·Memᴰ row rows
+    pub works : leads row ≡ true
+    pub crews : tryEach deeper w f rows .crews ≡ deeper (placedOf w f row) .crews
+    pub before : (c : ℕ) → List·Memᴰ c rows → c < row → leads c ≡ false
+
+  pub first : (k : ℕ) (rows : List ℕ) → Ascends k rows → tryEach deeper w f rows .found ≡ true → First rows
   unfolding tryEach
-  try-from [] e = absurd (true≢false (sym e))
-  try-from (row ∷ rest) e =
+  first k [] a e = absurd (true≢false (sym e))
+  first k (x ∷ rest) a e =
       ⊎-elim
-      (λ (h : leads row ≡ true). (row, List·Memᴰ·head refl, h, rw (h, tryEach)))
-      (λ (h : leads row ≡ false). let x = try-from rest (rw (h, tryEach) at e) in (x .0, List·Memᴰ·tail (x .1), x .2, rw (h, tryEach) (x .3)))
-      (either (leads row))
+      (λ (h : leads x ≡ true). record {
+        row = x;
+        mem = List·Memᴰ·head refl;
+        works = h;
+        crews = rw (h, tryEach);
+        before = λ c m l.
+            ⊎-elim (λ i. absurd (omega (arith, i))) (λ i. absurd (omega (arith, ascends-mem (suc x) rest (a .1) c i))) (List·Memᴰ·cases-cons m);
+      })
+      (λ (h : leads x ≡ false).
+      let y = first (suc x) rest (a .1) (rw (h, tryEach) at e) in
+      record {
+        row = y .row;
+        mem = List·Memᴰ·tail (y .mem);
+        works = y .works;
+        crews = rw (h, tryEach) (y .crews);
+        before = λ c m l. ⊎-elim (λ i. ap leads i ∙ h) (λ i. y .before c i l) (List·Memᴰ·cases-cons m);
+      })
+      (either (leads x))
 
   -- where none is found, no crew is given
   pub try-none : (rows : List ℕ) → tryEach deeper w f rows .found ≡ false → tryEach deeper w f rows .crews ≡ noCrews
@@ -248,9 +269,9 @@ module _ (w : Work) (Inv : Filling → Type 0) (Q : List ℕ → Type 0)
       → (f : Filling) → Inv f → f .closed ≢ w .crews → ones (f .crew) < w .size
       → tryEach (λ g. search m w g) w f (candidates w f) .found ≡ true → Q (tryEach (λ g. search m w g) w f (candidates w f) .crews)
   keeps-each m deeper f i e l h =
-      let x = try-from (λ g. search m w g) w f (candidates w f) h in
-      subst Q (sym (x .3))
-      (deeper (placedOf w f (x .0)) (step f (x .0) i (record { going = e; room = l; candidate = candidate-of w f (x .0) (x .1) })) (x .2))
+      let x = first (λ g. search m w g) w f 0 (candidates w f) (candidates-ascend w f) h in
+      subst Q (sym (x .crews))
+      (deeper (placedOf w f (x .row)) (step f (x .row) i (record { going = e; room = l; candidate = candidate-of w f (x .row) (x .mem) })) (x .works))
 
   pub search-keeps : (n : ℕ) (f : Filling) → Inv f → search n w f .found ≡ true → Q (search n w f .crews)
   search-keeps zero f i =
