@@ -24,7 +24,7 @@ use Rattle.crews.specs.declared.Filled.{Filled}
 use Rattle.crews.specs.Filling.{Work, Outcome, missingOf, placeOf, closeOf, placedOf, wantedOf, tryEach, search, orderly}
 use Rattle.sets.specs.Arrays.{at}
 use Rattle.crews.specs.Filled.{filledOf}
-use Rattle.crews.specs.Inner.Placing.{closedWhere, stuck, eligibleOf, Ready, Placing}
+use Rattle.crews.specs.Inner.Placing.{closedWhere, HasRoom, stuck, eligibleOf, Ready, Placing}
 use Rattle.crews.specs.Laws.Search.{search-full}
 use Rattle.crews.specs.Laws.Steps as step
 
@@ -55,10 +55,10 @@ module _ (f : Filling) (row holds : ℕ) where
     closed-next = settled-is (λ g. g .closed ≤ f .closed + 1) (λ z. omega arith) (λ z. omega arith)
 
     -- a crew just begun has room, and so has one that is not full
-    room-next : (size : ℕ) → 0 < size → stuck task size (placeOf f row holds) ≡ false → ones (settled .crew) < size
+    room-next : (size : ℕ) → HasRoom size f → stuck task size (placeOf f row holds) ≡ false → HasRoom size settled
     unfolding placeOf closeOf
-    room-next size some k =
-        settled-is (λ g. ones (g .crew) < size) (λ z. omega (arith, ones-none))
+    room-next size room k =
+        settled-is (HasRoom size) (λ z. omega (arith, room, ones-none))
         (λ z. leb-false _ _ (sym (step.lacking task (placeOf f row holds) size z) ∙ k))
 
 module _ (holds holders : ℕ → ℕ) (task crews size : ℕ) (f : Filling) (row spent allowance : ℕ) (p : Placing crews size f row spent allowance) where
@@ -98,7 +98,7 @@ module _ (holds holders : ℕ → ℕ) (task crews size : ℕ) (f : Filling) (ro
         (record {
           few = p .few;
           closed = omega (arith, p .going, closed-next f row (holds row) task);
-          room = λ n. room-next f row (holds row) task size (omega (arith, p .room)) (ap (stuck task size) (sym eq) ∙ k);
+          room = λ n. room-next f row (holds row) task size (p .room) (ap (stuck task size) (sym eq) ∙ k);
           within = p .within;
         })
 
@@ -160,7 +160,7 @@ outcome a units row = filledOf (a .allowance) (units + 1) (deeper a (placedOf (r
 pub record Going (a : Asked) (rest units : ℕ) : Type 0 where
   pub few : a .crews ≤ crewLimit
   pub unfinished : a .state .closed < a .crews
-  pub room : ones (a .state .crew) < a .size
+  pub room : HasRoom (a .size) (a .state)
   pub wide : rest < 2 ^ 64
   pub own : Sub rest (a .state .free)
   pub within : units ≤ a .allowance
@@ -189,7 +189,7 @@ begun a placed es r e w n =
           ∙ ap (λ (x : ℕ). trying a (members 0 64 x)) (sym e));
     }
   where
-    room : ones (a .state .crew) < a .size
+    room : HasRoom (a .size) (a .state)
     room = rw es (r .room (λ z. n (ap (λ (f : Filling). f .closed) es ∙ z)))
 
 module _ {a : Asked} {rest units : ℕ} (g : Going a rest units) where

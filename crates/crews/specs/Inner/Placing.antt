@@ -17,6 +17,10 @@ closedWhere task f = elim (eqb (missingOf task f) 0) [ true ↦ closeOf f | fals
 abbrev pub full : ℕ → Filling → Bool
 full size f = leb size (ones (f .crew))
 
+-- it has fewer
+abbrev pub HasRoom : ℕ → Filling → Type 0
+HasRoom size f = ones (f .crew) < size
+
 -- it is full without covering
 unfoldable pub stuck : ℕ → ℕ → Filling → Bool
 stuck task size f = elim (eqb (missingOf task f) 0) [ true ↦ false | false ↦ full size f ]
@@ -29,14 +33,14 @@ eligibleOf f rows = elim (eqb (f .crew) 0) [ true ↦ minus rowLimit rows (2 ^ m
 pub record Ready (task crews size : ℕ) (f : Filling) (spent allowance : ℕ) : Type 0 where
   pub few : crews ≤ crewLimit
   pub closed : closedWhere task f .closed ≤ crews
-  pub room : closedWhere task f .closed ≢ crews → ones (closedWhere task f .crew) < size
+  pub room : closedWhere task f .closed ≢ crews → HasRoom size (closedWhere task f)
   pub within : spent ≤ allowance
 
 -- what a placement asks: the row is free, a crew is still to be filled, and it is not full
 pub record Placing (crews size : ℕ) (f : Filling) (row spent allowance : ℕ) : Type 0 where
   pub few : crews ≤ crewLimit
   pub going : f .closed < crews
-  pub room : ones (f .crew) < size
+  pub room : HasRoom size f
   pub below : row < rowLimit
   pub free : Has (f .free) row
   pub within : spent ≤ allowance

@@ -87,7 +87,7 @@ module _ (holds holders : ℕ → ℕ) (P d t F : ℕ) where
               barren c l h q T s (λ i u e x. keeps i u (omega (arith, later .closed)) (later .kept i u x)) j (omega (arith, later .closed)) b has;
         }
 
-    module _ (n : ℕ) (f : Filling) (w : Way f) (fuel : ones (f .free) ≤ suc n) (going : f .closed ≢ d) (room : ones (f .crew) < t)
+    module _ (n : ℕ) (f : Filling) (w : Way f) (fuel : ones (f .free) ≤ suc n) (going : f .closed ≢ d) (room : ones (f .crew) < old .size)
         (same : (g : Filling) → Way g → ones (g .free) ≤ n → Alike (search n new g) (search n old g)) where
       abbrev by-new : List ℕ → Outcome
       by-new = tryEach (λ g. search n new g) new f
@@ -295,7 +295,7 @@ module _ (holds holders : ℕ → ℕ) (P d t F : ℕ) where
         ⊎-elim
         (λ l. let h = leb-true _ _ l in alike-of (search-full new f (suc n) e h ∙ sym (search-full old f (suc n) e h)))
         (λ l. let h = leb-false _ _ l in alike-by (search-open new f n e h) (search-open old f n e h) (each n f w fuel e h (λ g v b. same n g v b)))
-        (either (leb t (ones (f .crew)))))
+        (either (leb (old .size) (ones (f .crew)))))
         (same-or-not (f .closed) d)
 
     -- nothing is placed yet, and every row may begin the first crew
