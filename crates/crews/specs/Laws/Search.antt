@@ -4,17 +4,17 @@ use mathlib.Core.Path.{_≡_, refl, sym, ap, _∙_, subst}
 use mathlib.Core.Bool.{Bool, true, false, true≢false}
 use mathlib.Core.Logic.{_⊎_, inl, inr, ⊎-elim, _≢_}
 use mathlib.Core.List.{List, [], _∷_, List·Memᴰ, List·Memᴰ·head, List·Memᴰ·tail, List·Memᴰ·cases-cons, List·Memᴰ·not-nil}
-use Prim.Native.Nat.{ℕ, zero, suc, _^_, _≤_, _<_}
+use Prim.Native.Nat.{ℕ, zero, suc, _+_, _^_, _≤_, _<_}
 use native.Mathlib.Omega.{arith}
 use lib.Bits.{bitAnd}
 use lib.Count.{ones, trailingZeros}
 use lib.Dec.{eqb, leb}
 use borrow.Author.Tests.{eq-eqb, ne-eqb, le-leb, lt-leb, eqb-true, eqb-false, leb-true, leb-false}
 use Rattle.sets.specs.Sets.{bit, Has, and-in, in-and, missing-lt, missing-in, trailing-least}
-use Rattle.sets.specs.Members.{members, setOf}
+use Rattle.sets.specs.Members.{members, setOf, Ascends}
 use Rattle.sets.specs.Laws.Sums.{either, toN-true}
 use Rattle.sets.specs.Laws.Build.{setOf-bit}
-use Rattle.sets.specs.Laws.Members.{has-of-mem, mem-of-has, filter-members}
+use Rattle.sets.specs.Laws.Members.{has-of-mem, mem-of-has, members-ascend, filter-members}
 use Rattle.roster.specs.Limits.{rowLimit}
 use Rattle.roster.specs.Replies.{noCrews}
 use Rattle.crews.specs.declared.Filling.{Filling}
@@ -54,6 +54,16 @@ module _ (w : Work) (f : Filling) (row : ℕ) where
       (either (w .closes (putOf w f row))))
       (λ e. let z = eqb-false _ 0 e in subst Q (sym (placed-short z)) (kept (inl z)))
       (either (eqb (missingOf (w .task) (putOf w f row)) 0))
+
+-- from which row on the next crew may begin: the row after the first of this one
+module _ (f : Filling) (row h : ℕ) where
+  pub from-first : f .crew ≡ 0 → placeOf f row h .from ≡ row + 1
+  unfolding placeOf
+  from-first e = ap (λ (b : Bool). elim b [ true ↦ row + 1 | false ↦ f .from ]) (eq-eqb (f .crew) 0 e)
+
+  pub from-next : f .crew ≢ 0 → placeOf f row h .from ≡ f .from
+  unfolding placeOf
+  from-next n = ap (λ (b : Bool). elim b [ true ↦ row + 1 | false ↦ f .from ]) (ne-eqb (f .crew) 0 n)
 
 -- ---- the candidates
 
@@ -113,6 +123,19 @@ module _ (w : Work) (f : Filling) where
       (λ e. rw (going e) (mem-of-has rowLimit all row (c .below) h))
       (either (eqb (f .crew) 0))
 
+  pub candidates-ascend : Ascends 0 (candidates w f)
+  candidates-ascend =
+      ⊎-elim
+      (λ e. rw (begun e) (members-ascend 0 rowLimit (bitAnd (setOf rowLimit (w .begins f)) all)))
+      (λ e. rw (going e) (members-ascend 0 rowLimit all))
+      (either (eqb (f .crew) 0))
+
+-- what is in an ascending list is not below its beginning
+pub ascends-mem : (k : ℕ) (l : List ℕ) → Ascends k l → (c : ℕ) → List·Memᴰ c l → k ≤ c
+ascends-mem k [] a c m = absurd (List·Memᴰ·not-nil m)
+ascends-mem k (x ∷ l) a c m =
+    ⊎-elim (λ e. omega (arith, e, a .0)) (λ i. omega (arith, ascends-mem (suc x) l (a .1) c i, a .0)) (List·Memᴰ·cases-cons m)
+
 -- ---- one candidate after another
 
 module _ (deeper : Filling → Outcome) (w : Work) (f : Filling) where
@@ -135,16 +158,37 @@ module _ (deeper : Filling → Outcome) (w : Work) (f : Filling) where
       (List·Memᴰ·cases-cons m)))
       (either (leads x))
 
-  -- where one is found, some candidate's placement led to it
-  pub try-from : (rows : List ℕ) → tryEach deeper w f rows .found ≡ true
-      → (row : ℕ) × List·Memᴰ row rows × (leads row ≡ true) × (tryEach deeper w f rows .crews ≡ deeper (placedOf w f row) .crews)
+  -- where one is found, the placement of some candidate led to it, and those below it led to none
+  pub record First (rows : List ℕ) : Type 0 where
+    pub row : ℕ
+    pub mem : List·Memᴰ row rows
+    pub works : leads row ≡ true
+    pub crews : tryEach deeper w f rows .crews ≡ deeper (placedOf w f row) .crews
+    pub before : (c : ℕ) → List·Memᴰ c rows → c < row → leads c ≡ false
+
+  pub first : (k : ℕ) (rows : List ℕ) → Ascends k rows → tryEach deeper w f rows .found ≡ true → First rows
   unfolding tryEach
-  try-from [] e = absurd (true≢false (sym e))
-  try-from (row ∷ rest) e =
+  first k [] a e = absurd (true≢false (sym e))
+  first k (x ∷ rest) a e =
       ⊎-elim
-      (λ (h : leads row ≡ true). (row, List·Memᴰ·head refl, h, rw (h, tryEach)))
-      (λ (h : leads row ≡ false). let x = try-from rest (rw (h, tryEach) at e) in (x .0, List·Memᴰ·tail (x .1), x .2, rw (h, tryEach) (x .3)))
-      (either (leads row))
+      (λ (h : leads x ≡ true). record {
+        row = x;
+        mem = List·Memᴰ·head refl;
+        works = h;
+        crews = rw (h, tryEach);
+        before = λ c m l.
+            ⊎-elim (λ i. absurd (omega (arith, i))) (λ i. absurd (omega (arith, ascends-mem (suc x) rest (a .1) c i))) (List·Memᴰ·cases-cons m);
+      })
+      (λ (h : leads x ≡ false).
+      let y = first (suc x) rest (a .1) (rw (h, tryEach) at e) in
+      record {
+        row = y .row;
+        mem = List·Memᴰ·tail (y .mem);
+        works = y .works;
+        crews = rw (h, tryEach) (y .crews);
+        before = λ c m l. ⊎-elim (λ i. ap leads i ∙ h) (λ i. y .before c i l) (List·Memᴰ·cases-cons m);
+      })
+      (either (leads x))
 
   -- where none is found, no crew is given
   pub try-none : (rows : List ℕ) → tryEach deeper w f rows .found ≡ false → tryEach deeper w f rows .crews ≡ noCrews
@@ -225,9 +269,9 @@ module _ (w : Work) (Inv : Filling → Type 0) (Q : List ℕ → Type 0)
       → (f : Filling) → Inv f → f .closed ≢ w .crews → ones (f .crew) < w .size
       → tryEach (λ g. search m w g) w f (candidates w f) .found ≡ true → Q (tryEach (λ g. search m w g) w f (candidates w f) .crews)
   keeps-each m deeper f i e l h =
-      let x = try-from (λ g. search m w g) w f (candidates w f) h in
-      subst Q (sym (x .3))
-      (deeper (placedOf w f (x .0)) (step f (x .0) i (record { going = e; room = l; candidate = candidate-of w f (x .0) (x .1) })) (x .2))
+      let x = first (λ g. search m w g) w f 0 (candidates w f) (candidates-ascend w f) h in
+      subst Q (sym (x .crews))
+      (deeper (placedOf w f (x .row)) (step f (x .row) i (record { going = e; room = l; candidate = candidate-of w f (x .row) (x .mem) })) (x .works))
 
   pub search-keeps : (n : ℕ) (f : Filling) → Inv f → search n w f .found ≡ true → Q (search n w f .crews)
   search-keeps zero f i =
