@@ -57,20 +57,27 @@ compare() { # BAR NAME WORDS...
     fi
     ratio=$((ours * 100 / (c > 0 ? c : 1)))
     read -r verdict units _ <reply.ours
-    printf '%-32s %-6s %8d units, %5d times: %5d ms, C %4d ms, ratio %d.%02d (bar %d)\n' \
+    printf '%-38s %-6s %8d units, %5d times: %5d ms, C %4d ms, ratio %d.%02d (bar %d)\n' \
         "$name" "${words[verdict]}" "$units" "${!#}" "$ours" "$c" $((ratio / 100)) $((ratio % 100)) "$bar"
 }
 
-# seed, rows, permissions, chance in 100 of holding each, policy question?, s, d, t, times
+# seed, rows, roles (0: each row its own), permissions, chance in 100 of holding each, policy question?, s, d, t, times
 # Seed 126 is the worst known for half-filled crews that are handed on by value.
-compare 3 "filling, d 8, t 4, seed 4" 4 60 10 15 0 0 8 4 10
-compare 3 "filling, d 8, t 3, seed 33" 33 60 10 25 0 0 8 3 10
-compare 3 "filling, d 8, t 5, seed 126" 126 60 10 20 0 0 8 5 10
-compare 3 "filling, d 8, t 5, seed 40" 40 60 10 20 0 0 8 5 10
-compare 3 "filling, d 8, t 5, seed 113" 113 60 10 20 0 0 8 5 10
-compare 3 "filling, d 8, no limit, seed 368" 368 60 10 25 0 0 8 64 10
-compare 3 "filling, d 8, no limit, seed 107" 107 60 10 25 0 0 8 64 10
-compare 8 "policy, 64 equal rows, s 16, d 1" 1 64 10 100 1 16 1 64 10000
-compare 8 "policy, 60 rows, s 6, d 2, t 4" 3 60 10 25 1 6 2 4 10
-compare 8 "policy, 60 rows, s 7, d 2, t 4" 61 60 10 25 1 7 2 4 10
-compare 8 "policy, 60 rows, s 8, d 2" 4 60 10 45 1 8 2 64 10
+compare 3 "filling, d 8, t 4, seed 4" 4 60 0 10 15 0 0 8 4 10
+compare 3 "filling, d 8, t 3, seed 33" 33 60 0 10 25 0 0 8 3 10
+compare 3 "filling, d 8, t 5, seed 126" 126 60 0 10 20 0 0 8 5 10
+compare 3 "filling, d 8, t 5, seed 40" 40 60 0 10 20 0 0 8 5 10
+compare 3 "filling, d 8, t 5, seed 113" 113 60 0 10 20 0 0 8 5 10
+compare 3 "filling, d 8, no limit, seed 368" 368 60 0 10 25 0 0 8 64 10
+compare 3 "filling, d 8, no limit, seed 107" 107 60 0 10 25 0 0 8 64 10
+compare 3 "policy, 64 equal rows, s 16, d 1" 1 64 0 10 100 1 16 1 64 10000
+compare 3 "policy, 60 rows, s 6, d 2, t 4" 3 60 0 10 25 1 6 2 4 10
+compare 3 "policy, 60 rows, s 7, d 2, t 4" 61 60 0 10 25 1 7 2 4 10
+compare 3 "policy, 60 rows, s 8, d 2" 4 60 0 10 45 1 8 2 64 10
+# staff by role: few different holdings, many people with the same, and any number of them away
+compare 3 "policy, 40 rows of 7 roles, s 32" 86 40 7 8 45 1 32 1 64 40
+compare 3 "policy, 46 rows of 8 roles, s 64, t 4" 360 46 8 10 40 1 64 1 4 900
+compare 3 "policy, 48 rows of 3 roles, s 64, t 3" 390 48 3 6 60 1 64 1 3 600
+compare 3 "policy, 56 rows of 15 roles, s 32" 127 56 15 8 40 1 32 1 64 6
+compare 3 "policy, 62 rows of 11 roles, s 64, t 3" 78 62 11 9 50 1 64 1 3 6
+compare 3 "policy, 64 rows of 8 roles, s 64" 15 64 8 9 40 1 64 1 64 8

@@ -20,7 +20,7 @@ use Rattle.crews.specs.Laws.Arrays.{lent-filling}
 use Rattle.crews.specs.Laws.Steps as steps
 use Rattle.absences.specs.declared.Search.{Search}
 use Rattle.absences.specs.Tried.{Found, perAbsence, unitsOf, weighed}
-use Rattle.absences.specs.Walk.{Lent, courseOf, walkedFrom, walkedOf}
+use Rattle.absences.specs.Inner.Walk.{Lent, courseOf, walkedFrom, walkedOf}
 use Rattle.absences.specs.Laws.Weighed.{weighed-fits, weighed-blocks, weighed-none, dearer}
 use Rattle.absences.proofs.Spent.{undecidedAt, walked-fits, walked-over}
 

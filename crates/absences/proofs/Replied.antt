@@ -23,10 +23,10 @@ use Rattle.absences.specs.declared.Search.{Search}
 use Rattle.absences.specs.declared.Course.{Course}
 use Rattle.absences.specs.declared.Course.the-variants.{Open, Blocked, Undecided}
 use Rattle.absences.specs.declared.Walked.{Walked}
-use Rattle.absences.specs.Tried.{Way, Found, perAbsence, weighed}
+use Rattle.absences.specs.Tried.{Way, sizesTo, Found, perAbsence, weighed}
 use Rattle.absences.specs.Asked.{found}
 use Rattle.absences.specs.Replied.{repliedBy, policyReplyOf}
-use Rattle.absences.specs.Walk.{courseOf, walkedFrom, walkedOf, walkedBy, sized, replyFrom, searchedBy}
+use Rattle.absences.specs.Inner.Walk.{courseOf, walkedFrom, walkedOf, walkedBy, replyFrom, searchedBy}
 use Rattle.absences.specs.Laws.Weighed.{andThen, weighed-append}
 use Rattle.absences.specs.Laws.Decided.{verdict-late, verdict-within}
 use Rattle.absences.proofs.Absent.{absent-told}
@@ -54,14 +54,14 @@ reply-told most w r crews e = go (judge most 0 w r e)
     go (is-over l c) = ap (toldBy most crews) (e ∙ walked-over most 0 w l) ∙ ap says (sym (verdict-late w most (omega arith)))
 
 -- the first absence tried is that of nobody, and `first` is what its filling says
-module _ (table : Table) (s : Search) (most : ℕ) (first : Filled)
+module _ (way : Way) (table : Table) (s : Search) (most : ℕ) (first : Filled)
     (e : first ≡ filledOf (s .allowance) perAbsence (filling table (s .task) (s .crews) (s .size) 0)) (nobody : Walked)
     (f : nobody ≡ walkedFrom (first .ending) 0 (first .units)) where
   abbrev tries : List ℕ → Found
   tries = weighed (filling table (s .task) (s .crews) (s .size))
 
   abbrev rest : List ℕ
-  rest = sized table s most
+  rest = sizesTo way table (s .task) most
 
   abbrev crews : List ℕ
   crews = filling table (s .task) (s .crews) (s .size) 0 .crews
@@ -74,7 +74,7 @@ module _ (table : Table) (s : Search) (most : ℕ) (first : Filled)
 
   -- the reply from r, if r is what all absences come to
   whole : (r : Walked) → r ≡ walkedOf (s .allowance) 0 (andThen (tries (0 ∷ [])) (tries rest))
-      → toldBy (s .allowance) crews r ≡ searchedBy table s most
+      → toldBy (s .allowance) crews r ≡ searchedBy way table s most
   whole r h = reply-told (s .allowance) (tries (0 ∷ rest)) r crews (h ∙ ap (walkedOf (s .allowance) 0) (sym both))
 
   -- unless the allowance is spent the filling has the first list, or none
@@ -98,12 +98,12 @@ module _ (table : Table) (s : Search) (most : ℕ) (first : Filled)
   within-first o = turn-open (s .allowance) 0 (tries (0 ∷ [])) (tries rest) nobody alone o .1
 
   pub all-open : (r : Walked) → nobody .course ≡ Open → r ≡ walkedBy table s (nobody .units) rest
-      → toldBy (s .allowance) (first .crews) r ≡ searchedBy table s most
+      → toldBy (s .allowance) (first .crews) r ≡ searchedBy way table s most
   all-open r o h =
       with-first r (inr (λ q. open-undecided _ o q))
       ∙ whole r (h ∙ sym (turn-open (s .allowance) 0 (tries (0 ∷ [])) (tries rest) nobody alone o .0))
 
-  pub all-stopped : nobody .course ≢ Open → toldBy (s .allowance) (first .crews) nobody ≡ searchedBy table s most
+  pub all-stopped : nobody .course ≢ Open → toldBy (s .allowance) (first .crews) nobody ≡ searchedBy way table s most
   all-stopped o =
       with-first nobody (spent (nobody .course))
       ∙ whole nobody (turn-stopped (s .allowance) 0 (tries (0 ∷ [])) (tries rest) nobody alone o)

@@ -12,7 +12,7 @@ use Rattle.absences.specs.declared.Course.{Course}
 use Rattle.absences.specs.declared.Course.the-variants.{Open, Blocked, Undecided}
 use Rattle.absences.specs.declared.Walked.{Walked}
 use Rattle.absences.specs.Tried.{Found}
-use Rattle.absences.specs.Walk.{courseOf, walkedOf}
+use Rattle.absences.specs.Inner.Walk.{courseOf, walkedOf}
 use Rattle.absences.specs.Laws.Weighed.{andThen, dearer}
 
 abbrev pub undecidedAt : ℕ → Walked

@@ -1,15 +1,17 @@
--- The policy question: what each search is allowed to reply. Nothing here is proved: these are definitions.
+-- The policy question: what each search is allowed to reply, and what a reply tells. Nothing here is proved: these are definitions.
 use mathlib.Core.Path.{_≡_}
+use mathlib.Core.Logic.{_≢_, _↔_}
 use mathlib.Core.List.{List}
 use Prim.Native.Nat.{ℕ, _≤_, _<_}
+use lib.ListN.{take}
 use Rattle.roster.specs.declared.Table.{Table}
 use Rattle.roster.specs.declared.Refusal.{Refusal}
 use Rattle.roster.specs.declared.Ruling.the-variants as ruling
 use Rattle.roster.specs.declared.Verdict.the-variants.{Yes, No, Undecided, Refused}
 use Rattle.roster.specs.declared.Reply.{Reply}
-use Rattle.roster.specs.Meaning.{Holds, FirstBlocker}
+use Rattle.roster.specs.Meaning.{CrewList, Holds, FirstBlocker}
 use Rattle.roster.specs.Refusals.{policyRuling}
-use Rattle.roster.specs.Replies.{noCrews, replyWith}
+use Rattle.roster.specs.Replies.{noCrews, Eight, replyWith}
 use Rattle.crews.specs.Filling.{filling, fillingBefore}
 use Rattle.crews.specs.Named.{firstList}
 use Rattle.absences.specs.Tried.{Way, tried, Found, weighed}
@@ -41,6 +43,30 @@ pub record PolicyReplyBy (w : Found) (crews : List ℕ) (table : Table) (P s d t
 -- what may come back from this search
 abbrev pub PolicyReply : Way → Table → ℕ → ℕ → ℕ → ℕ → ℕ → Reply → Type 0
 PolicyReply way table P s d t = PolicyReplyBy (found way table P s d t) (firstList table P d t 0) table P s d t
+
+-- what a reply tells whoever reads it: `policy-exactly` shows that each that may come back does
+pub record Tells (way : Way) (table : Table) (P s d t allowance : ℕ) (r : Reply) : Type 0 where
+  -- refused exactly by the rules
+  pub refused : (refusal : Refusal) → (r .verdict ≡ Refused refusal) ↔ Refuses table P s d t refusal
+  -- "undecided, exactly if allowance < need"
+  pub undecided : (r .verdict ≡ Undecided) ↔ (Admits table P s d t × (allowance < needPolicy way table P s d t))
+  -- else yes exactly if the policy holds
+  pub yes : (r .verdict ≡ Yes)
+      ↔ (Admits table P s d t × (needPolicy way table P s d t ≤ allowance) × Holds table P s d t)
+  -- and no exactly if it does not
+  pub no : (r .verdict ≡ No)
+      ↔ (Admits table P s d t × (needPolicy way table P s d t ≤ allowance) × (Holds table P s d t → ⊥))
+  -- with yes comes a crew list with nobody absent, the first; else no crews; always "eight sets; those past d are 0"
+  pub crews : r .verdict ≡ Yes → (r .crews ≡ firstList table P d t 0) × CrewList table P d t 0 (take d (r .crews))
+  pub no-crews : r .verdict ≢ Yes → r .crews ≡ noCrews
+  pub eight : Eight d (r .crews)
+  -- with no the first blocking absence; else 0
+  pub blocker : r .verdict ≡ No → FirstBlocker table P s d t (r .blocker)
+  pub no-blocker : r .verdict ≢ No → r .blocker ≡ 0
+  -- the units: none, all that was allowed, or the need
+  pub unspent : (refusal : Refusal) → r .verdict ≡ Refused refusal → r .units ≡ 0
+  pub spent : r .verdict ≡ Undecided → r .units ≡ allowance
+  pub units : r .verdict ≢ Undecided → Admits table P s d t → r .units ≡ needPolicy way table P s d t
 
 -- ---- the rule of filling before, kept as the reference
 

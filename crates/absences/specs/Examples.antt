@@ -16,10 +16,9 @@ use Rattle.roster.specs.declared.Refusal.{Refusal}
 use Rattle.roster.specs.declared.Verdict.the-variants.{Yes, No, Undecided, Crews, None, Refused}
 use Rattle.roster.specs.declared.Reply.{Reply}
 use Rattle.roster.specs.Limits.{rowLimit, crewLimit}
-use Rattle.roster.specs.Meaning.{ahead, rank}
+use Rattle.roster.specs.Meaning.{outweighsb, ahead, rank}
 use Rattle.roster.specs.Refusals.{policyRuling, namedRuling}
 use Rattle.roster.specs.Replies.{noCrews}
-use Rattle.roster.specs.Laws.Rank.{outweighsb}
 use Rattle.crews.specs.Filling.{placeOf, closeOf, placedOf, candidates, tryEach, search}
 use Rattle.crews.specs.Named.{NamedReply, namedReplyOf}
 use Rattle.crews.specs.Laws.Allowed.{named-allowed}

@@ -1,6 +1,7 @@
 -- the list of absences: the row of each rank, one size, all sizes; and no other list is so
 pub mod Rows
 pub mod OneSize
+pub mod Open
 pub mod Listed
 pub mod Only
 -- what trying them comes to, which row of "What comes back" that is, and the need

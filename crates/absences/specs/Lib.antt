@@ -7,5 +7,5 @@ pub mod Examples
 pub mod More
 -- that the definitions mean what 01 says, and the demands
 pub mod Laws
--- what the private functions of the walk are held to
-pub mod Walk
+-- definitions that only laws and proofs speak of, and what the private functions are held to
+pub mod Inner

@@ -12,9 +12,8 @@ use Rattle.sets.specs.Members.{cons?, members, filter, hasb, setOf}
 use Rattle.roster.specs.declared.Table.{Table}
 use Rattle.roster.specs.declared.Refusal.{Refusal}
 use Rattle.roster.specs.declared.Refusal.the-variants.{Rows, Task, Away, Crews, Size, Absence}
-use Rattle.roster.specs.Meaning.{ahead, rank}
+use Rattle.roster.specs.Meaning.{outweighsb, ahead, rank}
 use Rattle.roster.specs.Refusals.{policyRuling, namedRuling}
-use Rattle.roster.specs.Laws.Rank.{outweighsb}
 use Rattle.crews.specs.Filling.{placeOf, closeOf, placedOf, candidates, tryEach, search}
 use Rattle.absences.specs.Tried.{rowFrom, Way, full, skipping, joins, listed, sizesFrom, weighed}
 use Rattle.absences.specs.Asked.{foundBefore}

@@ -8,8 +8,7 @@ use lib.Dec.{eqb}
 use Rattle.sets.specs.Members.{setOf}
 use Rattle.sets.specs.Sets.{with}
 use Rattle.roster.specs.declared.Table.{Table}
-use Rattle.roster.specs.Meaning.{rank}
-unfoldable pub use Rattle.roster.specs.Laws.Rank.{outweighsb}
+use Rattle.roster.specs.Meaning.{outweighsb, rank}
 use Rattle.crews.specs.Filling.{Outcome}
 
 -- the first of the n rows from u on that has rank r

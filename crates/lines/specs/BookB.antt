@@ -6,11 +6,11 @@ use lib.Count.{ones, onesIn, trailingZeros}
 use Rattle.sets.specs.Sets.{bit}
 use Rattle.sets.specs.Sums.{sumTo, toN}
 use Rattle.sets.specs.Members.{cons?, members, filter, hasb, setOf}
-use Rattle.roster.specs.Meaning.{ahead, rank}
+use Rattle.roster.specs.Meaning.{outweighsb, ahead, rank}
 use Rattle.roster.specs.Refusals.{policyRuling}
 use Rattle.crews.specs.Filling.{placeOf, closeOf, placedOf, candidates, tryEach, search}
 use Rattle.sets.specs.Arrays.{tabulate}
-use Rattle.absences.specs.Tried.{outweighsb, rowFrom, joins, listed, sizesFrom, weighed}
+use Rattle.absences.specs.Tried.{rowFrom, joins, listed, sizesFrom, weighed}
 use Rattle.absences.specs.Replied.{policyReplyOf}
 use Rattle.book.specs.Reading.{
   number,

@@ -22,10 +22,9 @@ use Rattle.roster.specs.declared.Verdict.{Verdict}
 use Rattle.roster.specs.declared.Verdict.the-variants.{Yes, No, Undecided, Crews, None, Refused}
 use Rattle.roster.specs.declared.Reply.{Reply}
 use Rattle.roster.specs.Limits.{rowLimit}
-use Rattle.roster.specs.Meaning.{ahead, rank}
+use Rattle.roster.specs.Meaning.{outweighsb, ahead, rank}
 use Rattle.roster.specs.Refusals.{numberOf, policyRuling, namedRuling, madeOf}
 use Rattle.roster.specs.Replies.{replyWith}
-use Rattle.roster.specs.Laws.Rank.{outweighsb}
 use Rattle.roster.specs.Laws.Lists.{ranks}
 
 -- ---- how the table is written

@@ -2,14 +2,14 @@
 -- and a "no" are worth. Nothing here is proved: these are definitions.
 use mathlib.Core.Path.{_≡_}
 use mathlib.Core.Logic.{_⊎_, _≢_}
-use mathlib.Core.Bool.{Bool, _&&_, _||_}
+use mathlib.Core.Bool.{Bool, not, _&&_, _||_}
 use mathlib.Core.List.{List}
 use Prim.Native.Nat.{ℕ, _^_, _≤_, _<_}
 use lib.Bits.{bitAnd}
 use lib.Count.{ones}
 use lib.Dec.{eqb, ltb}
 use lib.ListN.{length, getD}
-use Rattle.sets.specs.Sets.{bit, Has, Sub, Apart}
+use Rattle.sets.specs.Sets.{bit, Has, Sub, subb, Apart}
 use Rattle.sets.specs.Sums.{sumTo, toN}
 use Rattle.roster.specs.declared.Table.{Table}
 
@@ -47,6 +47,11 @@ Holds table P s d t = (A : ℕ) → Absence table s A → Blocks table P d t A �
 abbrev pub Outweighs : Table → ℕ → ℕ → ℕ → Type 0
 Outweighs table P u v =
     Sub (held table P v) (held table P u) × ((held table P u ≢ held table P v) ⊎ ((held table P u ≡ held table P v) × (u < v)))
+
+-- the same as a mask test: what v holds within P and u holds too is all that v holds; and they differ, or u comes first
+unfoldable pub outweighsb : Table → ℕ → ℕ → ℕ → Bool
+outweighsb table P u v =
+    subb (held table P v) (held table P u) && (not (eqb (held table P u) (held table P v)) || ltb u v)
 
 -- "Rank orders rows by number of permissions within P, most first, then by row number, lowest first."
 abbrev pub Ahead : Table → ℕ → ℕ → ℕ → Type 0

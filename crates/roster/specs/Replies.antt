@@ -1,6 +1,9 @@
 -- 01, the table of "What comes back": which values go with each verdict. Nothing here is proved: these are definitions.
+use mathlib.Core.Path.{_≡_}
 use mathlib.Core.List.{List, [], _∷_}
-use Prim.Native.Nat.{ℕ}
+use Prim.Native.Nat.{ℕ, _≤_}
+use lib.ListN.{length, getD}
+use Rattle.roster.specs.Limits.{crewLimit}
 use Rattle.roster.specs.declared.Verdict.{Verdict}
 use Rattle.roster.specs.declared.Verdict.the-variants.{Yes, No, Undecided, Crews, None, Refused}
 use Rattle.roster.specs.declared.Reply.{Reply}
@@ -8,6 +11,11 @@ use Rattle.roster.specs.declared.Reply.{Reply}
 -- "all 0"
 abbrev pub noCrews : List ℕ
 noCrews = 0 ∷ 0 ∷ 0 ∷ 0 ∷ 0 ∷ 0 ∷ 0 ∷ 0 ∷ []
+
+-- "Crews are eight sets; those past d are 0."
+pub record Eight (d : ℕ) (crews : List ℕ) : Type 0 where
+  pub many : length crews ≡ crewLimit
+  pub past : (j : ℕ) → d ≤ j → getD crews j 0 ≡ 0
 
 -- the reply with this verdict, where the first list of crews, the first blocker, the need and the allowance are these
 abbrev pub replyWith : (crews : List ℕ) (blocker need allowance : ℕ) → Verdict → Reply

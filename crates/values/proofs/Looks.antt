@@ -24,7 +24,7 @@ use Rattle.book.specs.declared.Section.the-variants.{Permissions, Rows, Policie
 use Rattle.values.specs.Values.{contentsFor}
 use Rattle.values.specs.Writing.{valueLooks, sectionIn, firstOf, faultIn}
 use Rattle.values.specs.Laws.First.{orElse, first-append, neither, none-head}
-use Rattle.values.specs.Inner.Looks.{limitIn, Counted, codeIn, rowIn, policyIn, priorTo, leadOf, staysAt, lookWith, sectionLooks, told}
+use Rattle.values.specs.Inner.Looks.{limitIn, countOf, Counted, codeIn, rowIn, policyIn, priorTo, leadOf, staysAt, lookWith, sectionLooks, told}
 use Rattle.values.specs.declared.Values.{Values}
 
 -- ---- one entry
@@ -140,11 +140,11 @@ allLooks v = sectionLooks v Permissions ++ (sectionLooks v Rows ++ sectionLooks 
 pub fault-by-sections : (v : Values) → faultIn (contentsFor v) ≡ firstOf (allLooks v)
 unfolding contentsFor
 fault-by-sections v =
-    let listed = length-tabulate (v .«code_count») (codeIn v) in
+    let listed = length-tabulate (countOf v Permissions) (codeIn v) in
     ap firstOf
-    (ap₂ (λ (l m : List Look). l ++ m) (section-looks codes 0 0 (v .«code_count») (codeIn v) refl)
-    (ap₂ (λ (l m : List Look). l ++ m) (section-looks rows _ (v .«code_count») (v .«row_count») (rowIn v) listed)
-    (section-looks policies _ (v .«code_count») (v .«policy_count») (policyIn v) listed)))
+    (ap₂ (λ (l m : List Look). l ++ m) (section-looks codes 0 0 (countOf v Permissions) (codeIn v) refl)
+    (ap₂ (λ (l m : List Look). l ++ m) (section-looks rows _ (v .«code_count») (countOf v Rows) (rowIn v) listed)
+    (section-looks policies _ (v .«code_count») (countOf v Policies) (policyIn v) listed)))
 
 -- a count that is sound is within its limit
 pub count-within : (section : Section) (n : ℕ) → countLookIn section n ≡ Sound → n ≤ limitIn section

@@ -62,9 +62,9 @@ pub bytes-by-sections : (v : Values)
     → sectionBytes v Permissions ++ (sectionBytes v Rows ++ sectionBytes v Policies) ≡ bytesOf (contentsFor v)
 unfolding bytesOf contentsFor
 bytes-by-sections v =
-    sym (ap₂ (λ (a b : List ℕ). a ++ b) (section-order codeWidths codeFields (codeIn v) (v .«code_count»))
-    (ap₂ (λ (a b : List ℕ). a ++ b) (section-order rowWidths rowFields (rowIn v) (v .«row_count»))
-    (section-order policyWidths policyFields (policyIn v) (v .«policy_count»))))
+    sym (ap₂ (λ (a b : List ℕ). a ++ b) (section-order codeWidths codeFields (codeIn v) (countOf v Permissions))
+    (ap₂ (λ (a b : List ℕ). a ++ b) (section-order rowWidths rowFields (rowIn v) (countOf v Rows))
+    (section-order policyWidths policyFields (policyIn v) (countOf v Policies))))
 
 -- ---- how long
 
@@ -84,7 +84,7 @@ order-length bytes wide i (suc n) h =
 section-length : (v : Values) (section : Section) → length (sectionBytes v section) ≡ 1 + widthIn section * countOf v section
 section-length v section = omega (arith, order-length (entryBytes v section) (widthIn section) 0 (countOf v section) (entry-length v section))
 
-pub book-length : (v : Values) → 3 + 2 * v .«code_count» + 8 * v .«row_count» + 7 * v .«policy_count» ≡ length (bytesOf (contentsFor v))
+pub book-length : (v : Values) → 3 + 2 * countOf v Permissions + 8 * countOf v Rows + 7 * countOf v Policies ≡ length (bytesOf (contentsFor v))
 book-length v =
     let codes = sectionBytes v Permissions in
     let rows = sectionBytes v Rows in

@@ -90,5 +90,8 @@ pub(crate) fn length_of(values: Values) -> usize
     requires { ⌜ Counted values ⌝ }
     ensures { λ r. ⌜ r ≡ length (bytesOf (contentsFor values)) ⌝ }
 {
-    3 + 2 * values.code_count + 8 * values.row_count + 7 * values.policy_count
+    let codes = count_of(values, Section::Permissions);
+    let rows = count_of(values, Section::Rows);
+    let policies = count_of(values, Section::Policies);
+    3 + 2 * codes + 8 * rows + 7 * policies
 }

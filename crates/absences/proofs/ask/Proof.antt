@@ -1,17 +1,24 @@
 -- A refused question is answered by its refusal. For an admitted one, what is worked out of the table is what the search is to be lent
 -- (`lends`, `ranks`), and what it tries is all that 01 lists. Assumes nothing.
-use mathlib.Core.Path.{_≡_, refl, sym, ap, _∙_}
+use mathlib.Core.Path.{_≡_, sym, ap, _∙_}
 use mathlib.Core.List.{List}
-use Prim.Native.Nat.{ℕ}
+use Prim.Native.Nat.{ℕ, _≤_, _<_}
 use native.Mathlib.Omega.{arith}
 use borrow.Author.Needs.{needs}
+use lib.ListN.{getD}
 use Rattle.sets.specs.Sets.{below-within}
+use Rattle.roster.specs.declared.Table.{Table}
+use Rattle.roster.specs.Limits.{rowLimit}
 use Rattle.roster.specs.declared.Ruling.the-variants.{Admitted}
 use Rattle.roster.specs.Refusals.{policyRuling}
 use Rattle.roster.specs.Laws.Rulings as rulings
+use Rattle.sets.specs.Arrays.{tabulate}
+use Rattle.crews.specs.Filling.{holdsOf}
 use Rattle.absences.specs.declared.Search.{Search}
-use Rattle.absences.specs.Walk.{wayOf, Lent, Ranked, searchedBy}
-use Rattle.absences.proofs.Rank.{within-of, order-at}
+use Rattle.absences.specs.Tried.{Way, rowAt}
+use Rattle.absences.specs.Laws.Rows.{rowAt-lt}
+use Rattle.absences.specs.Inner.Walk.{wayOf, Counted, Lent, Ranked, searchedBy}
+use Rattle.absences.proofs.Rank.{counted-of, order-at, weight-at}
 use Rattle.absences.proofs.Replied.{ruled}
 use Rattle.absences.proofs.ask.Statement.{statement}
 use Rattle.absences.proofs.ask.Tie as tie
@@ -34,6 +41,9 @@ holdings-within-requires c κs = search needs
 holders-of-requires : tie.Need-holders-of-requires
 holders-of-requires c κs = search needs
 
+counted-requires : tie.Need-counted-requires
+counted-requires c κs = search needs
+
 -- ---- an admitted question
 
 abbrev start : tie.After-enum-told → tie.Start
@@ -48,11 +58,42 @@ limits : (k : tie.After-enum-told)
     → rulings.Within (start k .args .table .rows) (start k .args .task) (start k .args .away) (start k .args .crews) (start k .args .size)
 limits k = rulings.policy-within _ _ _ _ _ (admitted k)
 
+-- what is worked out of the table, where each row's permissions are counted
+module _ (k : tie.After-counts) where
+  abbrev begun : tie.After-enum-told
+  begun = k .before .before .before .before .before .before
+
+  abbrev table : Table
+  table = start begun .args .table
+
+  abbrev task : ℕ
+  task = start begun .args .task
+
+  abbrev holds : List ℕ
+  holds = k .before .before .before .before .before .holdings-within .result
+
+  small : table .rows ≤ rowLimit
+  small = limits begun .rows
+
+  held : holds ≡ tabulate rowLimit (holdsOf table task)
+  held = k .before .before .before .before .before .holdings-within .ensures
+
+  counted : Counted table task (table .rows) (k .before .counted .result)
+  counted = counted-of table task small holds (k .before .counted .result) held (k .before .counted .ensures)
+
 ranked-requires : tie.Need-ranked-requires
-ranked-requires c κs =
-    let k = c .before .before .before .before in
-    let a = start k .args in
-    (limits k .rows, (a .table, a .task, within-of (a .table) (a .task) (limits k .rows) _ (c .before .before .before .holdings-within .ensures)))
+ranked-requires c κs = (small c, (table c, task c, counted c))
+
+-- the order has at each rank its row
+ordered : (k : tie.After-ranked) (r : ℕ) → r < table (k .before) .rows → getD (k .ranked .result) r 0 ≡ rowAt (table (k .before)) (task (k .before)) r
+ordered k =
+    order-at (table (k .before)) (task (k .before)) (table (k .before) .rows) (k .before .before .counted .result) (counted (k .before)) (k .ranked .result)
+    (k .ranked .ensures)
+
+weights-requires : tie.Need-weights-requires
+weights-requires c κs =
+    let k = c .before .before in
+    (small (k .before), λ i l. omega (arith, ordered k i l, rowAt-lt (table (k .before)) (task (k .before)) i l, small (k .before)))
 
 below-requires : tie.Need-below-requires
 below-requires c κs = search needs
@@ -62,51 +103,45 @@ smaller-requires c κs = search needs
 
 -- ---- what the search is lent is of the table
 
--- where the question was found admitted
-abbrev begun : tie.After-smaller → tie.After-enum-told
-begun c = c .before .before .before .before .before .before .before .before .before .before
-
-abbrev holds : tie.After-smaller → List ℕ
-holds c = c .before .before .before .before .before .before .before .before .before .holdings-within .result
+abbrev asked : tie.After-smaller → tie.After-counts
+asked c = c .before .before .before .before .before .before .before .before .before .before
 
 abbrev searching : tie.After-smaller → Search
 searching c = record {
-  skipping = start (begun c) .args .skipping;
-  task = start (begun c) .args .task;
-  crews = start (begun c) .args .crews;
-  size = start (begun c) .args .size;
-  rows = start (begun c) .args .table .rows;
-  everyone = c .before .before .before .before .below .result;
-  allowance = start (begun c) .args .allowance;
+  task = task (asked c);
+  crews = start (begun (asked c)) .args .crews;
+  size = start (begun (asked c)) .args .size;
+  everyone = c .before .before .before .before .before .below .result;
+  allowance = start (begun (asked c)) .args .allowance;
 }
 
-lends : (c : tie.After-smaller)
-    → Lent (start (begun c) .args .table) (searching c) (holds c) (c .before .before .before .before .before .before .before .holders-of .result)
+lends : (c : tie.After-smaller) → Lent (table (asked c)) (searching c) (holds (asked c)) (asked c .before .before .before .holders-of .result)
 lends c = record {
-  rows = refl;
-  small = limits (begun c) .rows;
-  everyone = c .before .before .before .before .below .ensures ∙ below-within 64 _ (limits (begun c) .rows);
-  few = limits (begun c) .few;
-  some = limits (begun c) .task;
-  wide = start (begun c) .fits .task .fits;
-  held = c .before .before .before .before .before .before .before .before .before .holdings-within .ensures;
-  holding = c .before .before .before .before .before .before .before .holders-of .ensures .0;
+  small = small (asked c);
+  everyone = c .before .before .before .before .before .below .ensures ∙ below-within 64 _ (small (asked c));
+  few = limits (begun (asked c)) .few;
+  some = limits (begun (asked c)) .task;
+  wide = start (begun (asked c)) .fits .task .fits;
+  held = held (asked c);
+  holding = asked c .before .before .before .holders-of .ensures .0;
 }
 
-ranks : (c : tie.After-smaller) → Ranked (start (begun c) .args .table) (searching c) (c .before .before .before .before .before .ranked .result)
+abbrev way : tie.After-counts → Way
+way k = wayOf (start (begun k) .args .skipping)
+
+ranks : (c : tie.After-smaller) → Ranked (way (asked c)) (table (asked c)) (task (asked c)) (c .before .before .before .before .before .before .before .before .before .ranked .result) (c .before .before .before .before .before .before .weights .result)
 ranks c = record {
-  rows = refl;
-  small = limits (begun c) .rows;
-  ranked =
-      let a = start (begun c) .args in
-      order-at (a .table) (a .task) (a .table .rows) (holds c) (within-of (a .table) (a .task) (limits (begun c) .rows) _ (lends c .held))
-      (c .before .before .before .before .before .ranked .result) (c .before .before .before .before .before .ranked .ensures);
+  row = ordered (c .before .before .before .before .before .before .before .before .before);
+  closes = λ r l.
+      c .before .before .before .before .before .before .weights .ensures r l
+      ∙ weight-at (table (asked c)) (task (asked c)) (small (asked c)) (holds (asked c)) (c .before .before .before .before .before .before .before .before .before .ranked .result) (held (asked c))
+      (ordered (c .before .before .before .before .before .before .before .before .before)) (start (begun (asked c)) .args .skipping) r l;
 }
 
 search-all-requires : tie.Need-search-all-requires
 search-all-requires c κs =
-    let within = limits (begun c) in
-    ((start (begun c) .args .table, lends c, ranks c), omega (arith, c .smaller .ensures, within .rows, within .away))
+    let within = limits (begun (asked c)) in
+    ((way (asked c), table (asked c), lends c, ranks c), omega (arith, c .smaller .ensures, within .rows, within .away))
 
 -- ---- the two replies
 
@@ -121,10 +156,10 @@ returns c =
 returns-2 : tie.Need-returns-2
 returns-2 c =
     let k = c .before in
-    let a = start (begun k) .args in
-    c .search-all .ensures (a .table) (lends k) (ranks k)
-    ∙ ap (λ (n : ℕ). searchedBy (a .table) (searching k) n) (k .smaller .ensures)
-    ∙ sym (ruled (wayOf (a .skipping)) (a .table) (a .task) (a .away) (a .crews) (a .size) (a .allowance) _ (admitted (begun k)))
+    let a = start (begun (asked k)) .args in
+    c .search-all .ensures (way (asked k)) (a .table) (lends k) (ranks k)
+    ∙ ap (λ (n : ℕ). searchedBy (way (asked k)) (a .table) (searching k) n) (k .smaller .ensures)
+    ∙ sym (ruled (way (asked k)) (a .table) (a .task) (a .away) (a .crews) (a .size) (a .allowance) _ (admitted (begun (asked k))))
 
 pub ask-spec : {M : Type 1} → statement M
 ask-spec =
@@ -136,7 +171,9 @@ ask-spec =
     enum-told
     holdings-within-requires
     holders-of-requires
+    counted-requires
     ranked-requires
+    weights-requires
     below-requires
     smaller-requires
     search-all-requires

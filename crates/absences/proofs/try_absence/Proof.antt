@@ -8,7 +8,7 @@ use Rattle.roster.specs.declared.Table.{Table}
 use Rattle.crews.specs.Filling.{filling}
 use Rattle.crews.specs.Filled.{filledOf}
 use Rattle.absences.specs.Tried.{perAbsence}
-use Rattle.absences.specs.Walk.{Lent}
+use Rattle.absences.specs.Inner.Walk.{Lent}
 use Rattle.absences.proofs.Absent.{answered, absent-told, absent-spent}
 use Rattle.absences.proofs.try_absence.Statement.{statement}
 use Rattle.absences.proofs.try_absence.Tie as tie

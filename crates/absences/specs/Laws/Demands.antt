@@ -11,21 +11,20 @@ use lib.Pow.{pow-pos}
 use Rattle.sets.specs.Sets.{ones-none}
 use Rattle.sets.specs.Laws.Sums.{either}
 use Rattle.roster.specs.declared.Table.{Table}
-use Rattle.roster.specs.declared.Refusal.{Refusal}
 use Rattle.roster.specs.declared.Ruling.{Ruling}
 use Rattle.roster.specs.declared.Verdict.{Verdict}
 use Rattle.roster.specs.declared.Verdict.the-variants.{Yes, No, Undecided, Refused}
 use Rattle.roster.specs.declared.Reply.{Reply}
 use Rattle.roster.specs.Meaning.{CrewList, Blocks, Absence, Holds, FirstBlocker}
 use Rattle.roster.specs.Refusals.{policyRuling}
-use Rattle.roster.specs.Replies.{noCrews, replyWith}
+use Rattle.roster.specs.Replies.{noCrews, Eight, replyWith}
 use Rattle.roster.specs.Laws.Order.{first-blocker-unique}
 use Rattle.crews.specs.Filling.{filling}
 use Rattle.crews.specs.Named.{firstList}
-use Rattle.crews.specs.Laws.Sound.{Eight, none-at}
+use Rattle.crews.specs.Laws.Sound.{none-at}
 use Rattle.crews.specs.Laws.Exact.{crews-eight, crews-past, Fair, finds-list, finds-none, holds-all}
 use Rattle.absences.specs.Tried.{Way, full, skipping, Found}
-use Rattle.absences.specs.Asked.{Refuses, Admits, found, needPolicy, PolicyReplyBy, PolicyReply}
+use Rattle.absences.specs.Asked.{Admits, found, needPolicy, PolicyReplyBy, PolicyReply, Tells}
 use Rattle.absences.specs.Replied.{verdictOf, repliedBy, policyReplyOf}
 use Rattle.absences.specs.Laws.Listed.{tried-complete, tried-ascending}
 use Rattle.absences.specs.Laws.Decided.{first-picked, first-not-holds, none-blocks, stops-first, one-blocks, verdict-late, verdict-within, Case, is-refused, is-undecided, is-yes, is-no, admitted-fair, policy-case}
@@ -91,30 +90,6 @@ module _ (way : Way) (table : Table) (P s d t : ℕ) (wide : P < 2 ^ 32) (allowa
   policy-is r a = policy-same r (policyReplyOf way table P s d t allowance) a policy-allowed
 
 -- ---- demand 2
-
--- what a reply tells whoever reads it
-pub record Tells (way : Way) (table : Table) (P s d t allowance : ℕ) (r : Reply) : Type 0 where
-  -- refused exactly by the rules
-  pub refused : (refusal : Refusal) → (r .verdict ≡ Refused refusal) ↔ Refuses table P s d t refusal
-  -- "undecided, exactly if allowance < need"
-  pub undecided : (r .verdict ≡ Undecided) ↔ (Admits table P s d t × (allowance < needPolicy way table P s d t))
-  -- else yes exactly if the policy holds
-  pub yes : (r .verdict ≡ Yes)
-      ↔ (Admits table P s d t × (needPolicy way table P s d t ≤ allowance) × Holds table P s d t)
-  -- and no exactly if it does not
-  pub no : (r .verdict ≡ No)
-      ↔ (Admits table P s d t × (needPolicy way table P s d t ≤ allowance) × (Holds table P s d t → ⊥))
-  -- with yes comes a crew list with nobody absent, the first; else no crews; always "eight sets; those past d are 0"
-  pub crews : r .verdict ≡ Yes → (r .crews ≡ firstList table P d t 0) × CrewList table P d t 0 (take d (r .crews))
-  pub no-crews : r .verdict ≢ Yes → r .crews ≡ noCrews
-  pub eight : Eight d (r .crews)
-  -- with no the first blocking absence; else 0
-  pub blocker : r .verdict ≡ No → FirstBlocker table P s d t (r .blocker)
-  pub no-blocker : r .verdict ≢ No → r .blocker ≡ 0
-  -- the units: none, all that was allowed, or the need
-  pub unspent : (refusal : Refusal) → r .verdict ≡ Refused refusal → r .units ≡ 0
-  pub spent : r .verdict ≡ Undecided → r .units ≡ allowance
-  pub units : r .verdict ≢ Undecided → Admits table P s d t → r .units ≡ needPolicy way table P s d t
 
 -- nobody absent is an absence, so where the policy holds there is a list with nobody absent
 pub holds-list : (table : Table) (P s d t : ℕ) → Fair table P d → Holds table P s d t → CrewList table P d t 0 (take d (firstList table P d t 0))

@@ -13,7 +13,7 @@ use Rattle.sets.specs.Sets.{ones-none, ones-empty}
 use Rattle.roster.specs.declared.Table.{Table}
 use Rattle.roster.specs.Meaning.{Absence, Worth}
 use Rattle.absences.specs.Tried.{Way, full, skipping, listed, sizesFrom, tried}
-use Rattle.absences.specs.Laws.Rows.{Kept}
+use Rattle.absences.specs.Inner.Opens.{Kept}
 use Rattle.absences.specs.Laws.OneSize.{Ascending, ascending-append, size-sound, size-complete, size-ascending, nobody-kept}
 
 -- the absences that this search tries: all, or those worth trying

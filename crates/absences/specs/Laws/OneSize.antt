@@ -18,7 +18,8 @@ use Rattle.roster.specs.declared.Table.{Table}
 use Rattle.roster.specs.Meaning.{rank, Earlier}
 use Rattle.roster.specs.Laws.Rank.{rank-below}
 use Rattle.absences.specs.Tried.{rowAt, Way, joins, listed}
-use Rattle.absences.specs.Laws.Rows.{rowAt-lt, rank-rowAt, rowAt-rank, Must, Kept, must-rank, joins-iff}
+use Rattle.absences.specs.Inner.Opens.{Must, Kept}
+use Rattle.absences.specs.Laws.Rows.{rowAt-lt, rank-rowAt, rowAt-rank, must-rank, joins-iff}
 
 -- ---- what a list is held to
 

@@ -13,9 +13,10 @@ use Rattle.sets.specs.Sums.{toN}
 use Rattle.sets.specs.Laws.Sums.{toN-yes, true-of-toN}
 use Rattle.sets.specs.Laws.Build.{setOf-bit, setOf-high}
 use Rattle.roster.specs.declared.Table.{Table}
-use Rattle.roster.specs.Meaning.{Outweighs, rank}
-use Rattle.roster.specs.Laws.Rank.{outweighsb, outweighs-iff, outweighs-rank, rank-below, rank-inj, rank-onto}
+use Rattle.roster.specs.Meaning.{Outweighs, outweighsb, rank}
+use Rattle.roster.specs.Laws.Rank.{outweighs-iff, outweighs-rank, rank-below, rank-inj, rank-onto}
 use Rattle.absences.specs.Tried.{rowFrom, rowAt, outweighers, Way, full, skipping, joins}
+use Rattle.absences.specs.Inner.Opens.{Must}
 
 -- ---- the row of a rank
 
@@ -63,14 +64,6 @@ module _ (table : Table) (P : ℕ) where
       rank-inj table P (rowAt table P (rank table P u)) u (rowAt-lt (rank table P u) k) l (rank-rowAt (rank table P u) k)
 
 -- ---- what a row that joins needs
-
--- u has to be absent where v is
-abbrev pub Must : Way → Table → ℕ → ℕ → ℕ → Type 0
-Must full table P u v = ⊥
-Must skipping table P u v = Outweighs table P u v
-
-abbrev pub Kept : Way → Table → ℕ → ℕ → Type 0
-Kept way table P A = (u v : ℕ) → u < table .rows → Has A v → Must way table P u v → Has A u
 
 pub must-rank : (way : Way) (table : Table) (P u v : ℕ) → u < table .rows → Must way table P u v → rank table P u < rank table P v
 must-rank full table P u v l m = absurd m

@@ -15,9 +15,8 @@ use Rattle.sets.specs.Laws.Sums.{either}
 use Rattle.sets.specs.Laws.Build.{setOf-ext}
 use Rattle.roster.specs.declared.Table.{Table}
 use Rattle.roster.specs.declared.Reply.{Reply}
-use Rattle.roster.specs.Meaning.{rank}
+use Rattle.roster.specs.Meaning.{outweighsb, rank}
 use Rattle.roster.specs.Refusals.{policyRuling}
-use Rattle.roster.specs.Laws.Rank.{outweighsb}
 use Rattle.roster.specs.Laws.Same.{Agree, same-rank}
 use Rattle.crews.specs.Filling.{Outcome, filling}
 use Rattle.crews.specs.Laws.Same.{same-filling}

@@ -4,14 +4,13 @@ use mathlib.Core.Logic.{_≢_, ⊎-elim}
 use mathlib.Core.Bool.{Bool}
 use mathlib.Core.List.{List}
 use Prim.Native.Nat.{ℕ, _+_, _-_, _*_, _/_, _%_, _^_, _≤_, _<_}
-use native.Mathlib.Numerals.{add-one}
 use native.Mathlib.Omega.{arith}
 use borrow.Author.Needs.{needs}
 use lib.Bits.{bitAnd, bitOr}
-use Rattle.sets.specs.Sets.{bit, bit-le, shl-one, shr-and-one}
+use Rattle.sets.specs.Sets.{bit, bit-le, shr-and-one}
 use Rattle.sets.specs.Members.{hasb, setOf}
 use Rattle.sets.specs.Laws.Tests.{has-hasb, out-hasb}
-use Rattle.sets.specs.Laws.Build.{setOf-none, setOf-yes, setOf-no}
+use Rattle.sets.specs.Laws.Build.{setOf-none, setOf-added, setOf-passed}
 use Rattle.sets.specs.Arrays.{at}
 use Rattle.crews.proofs.holders_at.Statement.{statement}
 use Rattle.crews.proofs.holders_at.Tie as tie
@@ -27,13 +26,12 @@ holding holds p u = hasb (at holds u) p
 more : (holds : List ℕ) (p row : ℕ) → row < 64 → bitAnd (at holds row / 2 ^ p) 1 ≡ 1
     → bitOr (setOf row (holding holds p)) ((1 * 2 ^ row) % 2 ^ 64) ≡ setOf (row + 1) (holding holds p)
 more holds p row l e =
-    rw (shl-one 64 row l, add-one)
-    (sym (setOf-yes row (holding holds p) (has-hasb (at holds row) p (sym (shr-and-one (at holds row) p) ∙ e))))
+    setOf-added row (holding holds p) l (has-hasb (at holds row) p (sym (shr-and-one (at holds row) p) ∙ e))
 
 same : (holds : List ℕ) (p row : ℕ) → bitAnd (at holds row / 2 ^ p) 1 ≢ 1 → setOf row (holding holds p) ≡ setOf (row + 1) (holding holds p)
 same holds p row n =
     let z : bit (at holds row) p ≡ 0 = out (at holds row) p (λ e. n (shr-and-one (at holds row) p ∙ e)) in
-    rw add-one (sym (setOf-no row (holding holds p) (out-hasb (at holds row) p z)))
+    setOf-passed row (holding holds p) (out-hasb (at holds row) p z)
 
 abbrev Inv-loop : tie.InvT-loop
 Inv-loop holds permission set₀ row₀ set row = (row ≤ 64) × (set ≡ setOf row (holding holds permission))

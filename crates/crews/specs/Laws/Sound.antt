@@ -3,7 +3,6 @@
 use mathlib.Core.Path.{_≡_, refl, sym, ap, _∙_, subst}
 use mathlib.Core.Bool.{true, false}
 use mathlib.Core.Logic.{_⊎_, inl, inr, ⊎-elim, _≢_}
-use mathlib.Core.List.{List}
 use Prim.Native.Nat.{ℕ, zero, suc, _+_, _-_, _^_, _≤_, _<_}
 use native.Mathlib.Decide.{decLt, ℕ-discrete}
 use native.Mathlib.Nat.{lt-of-lt-of-le}
@@ -21,7 +20,7 @@ use Rattle.sets.specs.Laws.Sums.{either}
 use Rattle.roster.specs.declared.Table.{Table}
 use Rattle.roster.specs.Limits.{rowLimit, crewLimit}
 use Rattle.roster.specs.Meaning.{held, Covers, CrewList}
-use Rattle.roster.specs.Replies.{noCrews}
+use Rattle.roster.specs.Replies.{noCrews, Eight}
 use Rattle.crews.specs.declared.Filling.{Filling}
 use Rattle.crews.specs.Filling.{Work, missingOf, placeOf, closeOf, placedOf, search, begin, present}
 use Rattle.crews.specs.Laws.Search.{putOf, placed-is, Tried, search-none, search-keeps}
@@ -67,11 +66,6 @@ unfolding placeOf
 shape-placed w f row s k =
     let l = unfinished w f s (k .going) in
     placed-is w f row (Shape w) (λ z. shape-close w (putOf w f row) (shape-put w f row s) l) (λ z. shape-put w f row s)
-
--- "Crews are eight sets; those past d are 0."
-pub record Eight (d : ℕ) (crews : List ℕ) : Type 0 where
-  pub many : length crews ≡ crewLimit
-  pub past : (j : ℕ) → d ≤ j → getD crews j 0 ≡ 0
 
 pub eight : (n : ℕ) (w : Work) (F : ℕ) → Eight (w .crews) (search n w (begin F) .crews)
 eight n w F =

@@ -13,8 +13,8 @@ use Rattle.roster.specs.declared.Policy.{Policy}
 use Rattle.roster.specs.declared.Reply.{Reply}
 use Rattle.roster.specs.declared.Ruling.the-variants.{Admitted}
 use Rattle.absences.specs.Tried.{skipping}
-use Rattle.absences.specs.Asked.{Admits}
-use Rattle.absences.specs.Laws.Demands.{Tells, policy-allowed, policy-exactly}
+use Rattle.absences.specs.Asked.{Admits, Tells}
+use Rattle.absences.specs.Laws.Demands.{policy-allowed, policy-exactly}
 use Rattle.book.specs.Layout.{Contents, PolicyFits}
 use Rattle.book.specs.Promises.{tableFor}
 use Rattle.book.specs.Laws.Parts.{each-nth, layout-parts}

@@ -13,9 +13,9 @@ use Rattle.roster.specs.declared.Verdict.{Verdict}
 use Rattle.roster.specs.declared.Verdict.the-variants.{Yes, No, Undecided}
 use Rattle.crews.specs.Laws.Exact.{Fair}
 use Rattle.absences.specs.Tried.{skipping}
-use Rattle.absences.specs.Asked.{Admits}
+use Rattle.absences.specs.Asked.{Admits, Tells}
 use Rattle.absences.specs.Laws.Decided.{admitted-fair}
-use Rattle.absences.specs.Laws.Demands.{Tells, policy-yes, policy-no}
+use Rattle.absences.specs.Laws.Demands.{policy-yes, policy-no}
 use Rattle.book.specs.Layout.{Contents, LayoutOf}
 use Rattle.book.specs.Faults.{faultNumber}
 use Rattle.book.specs.Promises.{Bytes, FirstFault, tableFor}

@@ -11,17 +11,17 @@ use lib.Pow.{pow-mono, pow-pos}
 use lib.Seq.{getD-take}
 use Rattle.sets.specs.Sets.{bit, bit-none, some-member}
 use Rattle.roster.specs.Limits.{crewLimit}
-use Rattle.roster.specs.Replies.{noCrews}
+use Rattle.roster.specs.Replies.{noCrews, Eight}
 use Rattle.roster.specs.Meaning.{CrewList}
 use Rattle.roster.specs.declared.Table.{Table}
 use Rattle.roster.specs.declared.Verdict.{Verdict}
 use Rattle.roster.specs.declared.Verdict.the-variants.{Yes, No, Undecided}
 use Rattle.roster.specs.declared.Reply.{Reply}
-use Rattle.crews.specs.Laws.Sound.{Eight, none-at}
+use Rattle.crews.specs.Laws.Sound.{none-at}
 use Rattle.absences.specs.Tried.{Way}
-use Rattle.absences.specs.Asked.{Admits, needPolicy, PolicyReply}
+use Rattle.absences.specs.Asked.{Admits, needPolicy, PolicyReply, Tells}
 use Rattle.absences.specs.Laws.Decided.{Case, is-refused, is-undecided, is-yes, is-no, admitted-fair, policy-case}
-use Rattle.absences.specs.Laws.Demands.{Tells, policy-exactly}
+use Rattle.absences.specs.Laws.Demands.{policy-exactly}
 use Rattle.printed.specs.Laws.Lines.{never, Worded, says-yes, says-no, says-undecided}
 use Rattle.printed.specs.Laws.Sets.{NoneBehind}
 

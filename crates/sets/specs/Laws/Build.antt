@@ -2,14 +2,15 @@
 use mathlib.Core.Path.{_≡_, refl, sym, ap, _∙_}
 use mathlib.Core.Bool.{Bool, true, false}
 use mathlib.Core.Logic.{_⊎_, inl, inr, ⊎-elim}
-use Prim.Native.Nat.{ℕ, zero, suc, _+_, _^_, _≤_, _<_}
+use Prim.Native.Nat.{ℕ, zero, suc, _+_, _*_, _%_, _^_, _≤_, _<_}
 use native.Mathlib.Decide.{ℕ-discrete}
 use native.Mathlib.Nat.{one-mul}
+use native.Mathlib.Numerals.{add-one}
 use native.Mathlib.Omega.{arith}
 use lib.Bits.{bitOr, or-shifted-r}
 use lib.Count.{ones}
 use Rattle.sets.specs.Mask.{bit}
-use Rattle.sets.specs.Laws.Digits.{bit-high, ext}
+use Rattle.sets.specs.Laws.Digits.{shl-one, bit-high, ext}
 use Rattle.sets.specs.Laws.Sizes.{ones-none}
 use Rattle.sets.specs.Laws.Change.{bit-with-same, bit-with-other, ones-with}
 use Rattle.sets.specs.Sums.{sumTo, toN}
@@ -39,6 +40,13 @@ setOf-yes n test e =
 pub setOf-no : (n : ℕ) (test : ℕ → Bool) → test n ≡ false → setOf (suc n) test ≡ setOf n test
 unfolding setOf sumTo
 setOf-no n test e = rw (toN-false (test n) e) (omega arith)
+
+-- a turn of the loop: n is added, or passed over
+pub setOf-added : (n : ℕ) (test : ℕ → Bool) → n < 64 → test n ≡ true → bitOr (setOf n test) ((1 * 2 ^ n) % 2 ^ 64) ≡ setOf (n + 1) test
+setOf-added n test l e = rw (shl-one 64 n l, add-one) (sym (setOf-yes n test e))
+
+pub setOf-passed : (n : ℕ) (test : ℕ → Bool) → test n ≡ false → setOf n test ≡ setOf (n + 1) test
+setOf-passed n test e = rw add-one (sym (setOf-no n test e))
 
 -- its members
 pub setOf-high : (n : ℕ) (test : ℕ → Bool) (i : ℕ) → n ≤ i → bit (setOf n test) i ≡ 0
