@@ -14,7 +14,8 @@ use Rattle.roster.specs.declared.Made.the-variants as variants
 use Rattle.roster.specs.declared.Policy.{Policy}
 use Rattle.roster.specs.declared.Table.{Table}
 use Rattle.book.specs.Layout.{Contents}
-use Rattle.book.specs.Reading.{Kind, codes, rows, policies, width, entryAt, countAt, past, readOf}
+use Rattle.book.specs.Reading.{Kind, codes, rowsOf, policies, width, entryAt, countAt, past, formOf, front, readOf}
+use Rattle.book.specs.declared.Form.{Form}
 use Rattle.book.specs.declared.Reading.{Reading}
 use Rattle.book.specs.declared.Reading.the-variants.{Good, Refused}
 use Rattle.book.specs.declared.Starts.{Starts}
@@ -37,13 +38,19 @@ entriesAt kind book at (suc n) = entryAt kind book at ∷ entriesAt kind book (a
 abbrev pub valuesAt : {A : Type 0} → Kind A → List ℕ → ℕ → List A
 valuesAt kind book at = entriesAt kind book (at + 1) (countAt book at)
 
--- the values that a good book is the layout of
-unfoldable pub contentsOf : List ℕ → Contents
-contentsOf book = record {
-  codes = valuesAt codes book 0;
-  rows = valuesAt rows book (past codes book 0);
-  policies = valuesAt policies book (past rows book (past codes book 0));
-}
+-- the values that a good book is the layout of, by its form
+unfoldable pub contentsBy : Form → List ℕ → Contents
+contentsBy form book =
+    let rowsAt = past codes book (front form) in
+    record {
+      form = form;
+      codes = valuesAt codes book (front form);
+      rows = valuesAt (rowsOf form) book rowsAt;
+      policies = valuesAt policies book (past (rowsOf form) book rowsAt);
+    }
+
+abbrev pub contentsOf : List ℕ → Contents
+contentsOf book = contentsBy (formOf book) book
 
 -- ---- its parts by place
 
@@ -66,14 +73,14 @@ placeOf wide book start i =
 
 -- ---- its rows
 
--- "staff number and holdings by row; past the last row it answers "no such row""
+-- "staff number and holdings by row; past the last row it answers "no such row"": the row whole, with its person number
 abbrev pub rowFrom : List ℕ → Place → Seen
-rowFrom book (place.At at) = seen.Row (entryAt rows book at)
+rowFrom book (place.At at) = seen.Row (entryAt (rowsOf (formOf book)) book at)
 rowFrom book place.Nothing = seen.NoSuchRow
 
 -- a row of a book whose sections start here: where it stands, and what it is
 abbrev pub rowPlace : List ℕ → Starts → ℕ → Place
-rowPlace book starts row = placeOf (width rows) book (starts .rows) row
+rowPlace book starts row = placeOf (width (rowsOf (formOf book))) book (starts .rows) row
 
 abbrev pub rowAt : List ℕ → Starts → ℕ → Seen
 rowAt book starts row = rowFrom book (rowPlace book starts row)

@@ -10,8 +10,9 @@ use Rattle.sets.specs.Arrays.{tabulate}
 use Rattle.roster.specs.Limits.{rowLimit}
 use Rattle.roster.specs.declared.Policy.{Policy}
 use Rattle.roster.specs.declared.Table.{Table}
-use Rattle.book.specs.Layout.{Contents, Each, LayoutOf, section, codeWidths, codeFields, rowWidths, rowFields}
-use Rattle.book.specs.Reading.{Found, looks}
+use Rattle.book.specs.Layout.{Contents, Each, LayoutOf, section, codeWidths, codeFields, rowWidths, rowFields, hasPersons, lead}
+use Rattle.book.specs.Reading.{Found, formOf, looks}
+use Rattle.book.specs.declared.Form.{Form}
 use Rattle.book.specs.Parts.{startsIn, rowByNumber, heldOr0, tableOf, policyCount, policyAt}
 use Rattle.book.specs.declared.Fault.{Fault}
 use Rattle.book.specs.declared.Look.the-variants.{Sound, Faulty}
@@ -42,11 +43,14 @@ pub record FirstFault (book : List ℕ) (f : Fault) (at : ℕ) : Type 0 where
 
 -- where the sections of the layout of these values start
 abbrev pub startsFor : Contents → Starts
-startsFor v = record {
-  permissions = 0;
-  rows = length (section codeWidths codeFields (v .codes));
-  policies = length (section codeWidths codeFields (v .codes) ++ section rowWidths rowFields (v .rows));
-}
+startsFor v =
+    let first = section codeWidths codeFields (v .codes) in
+    let second = section (rowWidths (hasPersons (v .form))) (rowFields (hasPersons (v .form))) (v .rows) in
+    record {
+      permissions = length (lead (v .form));
+      rows = length (lead (v .form) ++ first);
+      policies = length (lead (v .form) ++ (first ++ second));
+    }
 
 -- what may be replied to these bytes
 pub record Allows (book : List ℕ) (r : Reading) : Type 0 where
@@ -71,16 +75,17 @@ tableFor v = record {
   rows = length (v .rows);
 }
 
--- what the table, the policies and the rows of a book are that has these values
+-- what the form, the table, the policies and the rows of a book are that has these values
 pub record PartsOf (v : Contents) (book : List ℕ) : Type 0 where
+  pub form : formOf book ≡ v .form
   pub table : tableOf book ≡ tableFor v
   pub policies : policyCount book ≡ length (v .policies)
   pub policy : (i : ℕ) → policyAt book i ≡ policyBy (getElem? (v .policies) i)
   pub row : (i : ℕ) → rowByNumber book i ≡ rowBy (getElem? (v .rows) i)
 
--- what a refused book is taken to have
-abbrev pub nothing : Contents
-nothing = record { codes = []; rows = []; policies = [] }
+-- what a refused book is taken to have: its form, which is its first byte's, and nothing else
+abbrev pub nothing : Form → Contents
+nothing form = record { form = form; codes = []; rows = []; policies = [] }
 
 -- ---- the view
 

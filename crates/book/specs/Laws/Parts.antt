@@ -1,4 +1,4 @@
--- The table, the policies and the rows of a book are its values; a refused book has none. Assumes nothing.
+-- The form, the table, the policies and the rows of a book are its values; a refused book has none. Assumes nothing.
 use mathlib.Core.Path.{_≡_, refl, sym, ap, _∙_, ap₂, fun-ext}
 use mathlib.Core.Option.{some}
 use mathlib.Core.List.{List, [], _∷_}
@@ -11,12 +11,12 @@ use Rattle.roster.specs.Refusals.{madeBy}
 use Rattle.roster.specs.declared.Policy.{Policy}
 use Rattle.roster.specs.declared.Ruling.{Ruling}
 use Rattle.book.specs.Layout.{Contents, Each, PolicyFits, LayoutOf}
-use Rattle.book.specs.Reading.{rows, policies, width, entryAt, countAt, readOf, startsOf}
-use Rattle.book.specs.Parts.{valuesAt, contentsOf, startsIn, startsBy, placeOf, rowFrom, rowByNumber, heldOr0, tableOf, policyCount, listedBy, policyFrom, policyAt}
+use Rattle.book.specs.Reading.{rowsOf, policies, width, entryAt, countAt, formOf, readOf, startsOf}
+use Rattle.book.specs.Parts.{valuesAt, contentsBy, startsIn, startsBy, placeOf, rowPlace, rowFrom, rowByNumber, heldOr0, tableOf, policyCount, listedBy, policyFrom, policyAt}
 use Rattle.book.specs.Promises.{rowBy, policyBy, tableFor, PartsOf, nothing}
 use Rattle.book.specs.Laws.Sections.{entries-length}
-use Rattle.book.specs.Laws.Values.{row-codec, policy-codec}
-use Rattle.book.specs.Laws.Books.{rowsAt, policiesAt, laid, layout-good}
+use Rattle.book.specs.Laws.Values.{policy-codec}
+use Rattle.book.specs.Laws.Books.{rowsAt, policiesAt, rowCodecOf, laid, layout-good}
 use Rattle.book.specs.Laws.Places.{standing, standing-value, standing-none}
 use Rattle.book.specs.declared.Fault.{Fault}
 use Rattle.book.specs.declared.Place.{Place}
@@ -27,7 +27,7 @@ use Rattle.book.specs.declared.Starts.{Starts}
 
 -- ---- what stands at a place decides
 
-row-from : (book : List ℕ) (p : Place) → rowFrom book p ≡ rowBy (standing rows book p)
+row-from : (book : List ℕ) (p : Place) → rowFrom book p ≡ rowBy (standing (rowsOf (formOf book)) book p)
 row-from book (At at) = refl
 row-from book Nothing = refl
 
@@ -47,13 +47,14 @@ each-nth P (y ∷ l) (suc i) x h e = each-nth P l i x (h .1) e
 
 -- the parts, once the rows and the policies are known by their places
 module _ (v : Contents) (book : List ℕ) (listed : ℕ)
+    (form : formOf book ≡ v .form)
     (rowCount : countAt book (startsIn book .rows) ≡ length (v .rows))
     (policyCounted : countAt book (startsIn book .policies) ≡ length (v .policies))
-    (row : (i : ℕ) → standing rows book (placeOf (width rows) book (startsIn book .rows) i) ≡ getElem? (v .rows) i)
+    (row : (i : ℕ) → standing (rowsOf (formOf book)) book (placeOf (width (rowsOf (formOf book))) book (startsIn book .rows) i) ≡ getElem? (v .rows) i)
     (policy : (i : ℕ) → standing policies book (placeOf (width policies) book (startsIn book .policies) i) ≡ getElem? (v .policies) i)
     (fits : Each (PolicyFits listed) (v .policies)) where
   seen : (i : ℕ) → rowByNumber book i ≡ rowBy (getElem? (v .rows) i)
-  seen i = row-from book (placeOf (width rows) book (startsIn book .rows) i) ∙ ap rowBy (row i)
+  seen i = row-from book (rowPlace book (startsIn book) i) ∙ ap rowBy (row i)
 
   table : tableOf book ≡ tableFor v
   unfolding tableOf
@@ -63,6 +64,7 @@ module _ (v : Contents) (book : List ℕ) (listed : ℕ)
   parts : PartsOf v book
   unfolding policyCount policyAt
   parts = record {
+    form = form;
     table = table;
     policies = policyCounted;
     policy = λ i.
@@ -74,38 +76,39 @@ module _ (v : Contents) (book : List ℕ) (listed : ℕ)
 
 -- ---- a good book has the parts of its values
 
-starts-good : (v : Contents) (book : List ℕ) → LayoutOf v book → startsIn book ≡ startsOf book
+starts-good : (v : Contents) (book : List ℕ) → LayoutOf v book → startsIn book ≡ startsOf (v .form) book
 unfolding startsIn
 starts-good v book l = ap (startsBy book) (layout-good v book l) ∙ sym (laid v book l .starts)
 
 pub layout-parts : (v : Contents) (book : List ℕ) → LayoutOf v book → PartsOf v book
-unfolding contentsOf
+unfolding contentsBy
 layout-parts v book l =
+    let form = v .form in
     let h = laid v book l in
     let s = starts-good v book l in
-    let rowsStart : startsIn book .rows ≡ rowsAt book = ap (λ (x : Starts). x .rows) s in
-    let policiesStart : startsIn book .policies ≡ policiesAt book = ap (λ (x : Starts). x .policies) s in
-    let rowValues : valuesAt rows book (rowsAt book) ≡ v .rows = ap (λ (x : Contents). x .rows) (h .contents) in
-    let policyValues : valuesAt policies book (policiesAt book) ≡ v .policies = ap (λ (x : Contents). x .policies) (h .contents) in
-    parts v book (length (v .codes))
-    (rw rowsStart (sym (entries-length rows _ row-codec book (rowsAt book + 1) (countAt book (rowsAt book))) ∙ ap length rowValues))
-    (rw policiesStart (sym (entries-length policies _ policy-codec book (policiesAt book + 1) (countAt book (policiesAt book))) ∙ ap length policyValues))
-    (λ i. rw rowsStart (standing-value rows book (rowsAt book) i (h .sound .second .whole) ∙ ap (λ (x : List Row). getElem? x i) rowValues))
-    (λ i. rw policiesStart (standing-value policies book (policiesAt book) i (h .sound .third .whole) ∙ ap (λ (x : List Policy). getElem? x i) policyValues))
+    let rowsStart : startsIn book .rows ≡ rowsAt form book = ap (λ (x : Starts). x .rows) s in
+    let policiesStart : startsIn book .policies ≡ policiesAt form book = ap (λ (x : Starts). x .policies) s in
+    let rowValues : valuesAt (rowsOf form) book (rowsAt form book) ≡ v .rows = ap (λ (x : Contents). x .rows) (h .contents) in
+    let policyValues : valuesAt policies book (policiesAt form book) ≡ v .policies = ap (λ (x : Contents). x .policies) (h .contents) in
+    parts v book (length (v .codes)) (h .form)
+    (rw rowsStart (sym (entries-length (rowsOf form) _ (rowCodecOf form) book (rowsAt form book + 1) (countAt book (rowsAt form book))) ∙ ap length rowValues))
+    (rw policiesStart (sym (entries-length policies _ policy-codec book (policiesAt form book + 1) (countAt book (policiesAt form book))) ∙ ap length policyValues))
+    (λ i. rw (h .form, rowsStart) (standing-value (rowsOf form) book (rowsAt form book) i (h .sound .second .whole) ∙ ap (λ (x : List Row). getElem? x i) rowValues))
+    (λ i. rw policiesStart (standing-value policies book (policiesAt form book) i (h .sound .third .whole) ∙ ap (λ (x : List Policy). getElem? x i) policyValues))
     (l .admitted .sound)
 
 -- ---- a refused book has none
 
-pub refused-parts : (book : List ℕ) (f : Fault) (at : ℕ) → readOf book ≡ read.Refused f at → PartsOf nothing book
+pub refused-parts : (book : List ℕ) (f : Fault) (at : ℕ) → readOf book ≡ read.Refused f at → PartsOf (nothing (formOf book)) book
 unfolding startsIn Each
 refused-parts book f at e =
     let s = ap (startsBy book) e in
     let rowsStart : startsIn book .rows ≡ length book = ap (λ (x : Starts). x .rows) s in
     let policiesStart : startsIn book .policies ≡ length book = ap (λ (x : Starts). x .policies) s in
     let none-there = List·getD-eq-default book 0 {n = length book} (omega arith) in
-    parts nothing book 0
+    parts (nothing (formOf book)) book 0 refl
     (rw rowsStart none-there)
     (rw policiesStart none-there)
-    (λ i. rw rowsStart (standing-none rows book (length book) i (omega arith)))
+    (λ i. rw rowsStart (standing-none (rowsOf (formOf book)) book (length book) i (omega arith)))
     (λ i. rw policiesStart (standing-none policies book (length book) i (omega arith)))
     tt

@@ -11,7 +11,7 @@ use Rattle.sets.specs.Laws.Arrays.{at-tabulate}
 use Rattle.roster.specs.Limits.{rowLimit}
 use Rattle.roster.specs.declared.Table.{Table}
 use Rattle.book.specs.Layout.{Contents}
-use Rattle.book.specs.Reading.{startsOf}
+use Rattle.book.specs.Reading.{formOf, startsOf}
 use Rattle.book.specs.Parts.{contentsOf, rowAt, rowByNumber, rowOf, heldOr0, tableOf}
 use Rattle.book.specs.Promises.{Bytes, rowBy, PartsOf, nothing, ViewOf}
 use Rattle.book.specs.Laws.Books.{Good, Refused, reply, good-layout}
@@ -55,9 +55,9 @@ some-parts book bytes = go (reply book)
   where
     go : Good book ⊎ Refused book → SomeParts book
     go (inl g) =
-        let l = good-layout book (startsOf book) bytes (g .reply) in
+        let l = good-layout book (startsOf (formOf book) book) bytes (g .reply) in
         record { values = contentsOf book; few = l .admitted .rows; parts = layout-parts (contentsOf book) book l }
-    go (inr r) = record { values = nothing; few = omega arith; parts = refused-parts book (r .fault) (r .place) (r .reply) }
+    go (inr r) = record { values = nothing (formOf book); few = omega arith; parts = refused-parts book (r .fault) (r .place) (r .reply) }
 
 -- a place within a list has something there
 pub there : {A : Type 0} (l : List A) (i : ℕ) → i < length l → (x : A) × (getElem? l i ≡ some x)
@@ -72,7 +72,7 @@ not-there (x ∷ l) (suc i) h = not-there l i (omega arith)
 
 -- what is answered of a row, beside a table: a row of the table with what it holds there, and "no such row" past the last
 pub record RowSeen (table : Table) (row : ℕ) (r : Seen) : Type 0 where
-  pub held : row < table .rows → (staff : ℕ) × (r ≡ seen.Row (record { staff = staff; holdings = getD (table .holdings) row 0 }))
+  pub held : row < table .rows → (staff person : ℕ) × (r ≡ seen.Row (record { staff = staff; person = person; holdings = getD (table .holdings) row 0 }))
   pub past : table .rows ≤ row → r ≡ seen.NoSuchRow
 
 row-agrees : (book : List ℕ) → Bytes book → (row : ℕ) → RowSeen (tableOf book) row (rowByNumber book row)
@@ -88,7 +88,8 @@ row-agrees book bytes row =
           let stands = ap (λ (t : Table). getD (t .holdings) row 0) (p .table)
           ∙ at-tabulate rowLimit (λ i. held (getElem? (v .rows) i)) row (omega (arith, parts .few))
           ∙ ap held (here .1) in
-          (here .0 .staff, p .row row ∙ ap rowBy (here .1) ∙ ap (λ (h : ℕ). seen.Row (record { staff = here .0 .staff; holdings = h })) (sym stands));
+          let seenWith : ℕ → Seen = λ h. seen.Row (record { staff = here .0 .staff; person = here .0 .person; holdings = h }) in
+          (here .0 .staff, here .0 .person, p .row row ∙ ap rowBy (here .1) ∙ ap seenWith (sym stands));
       past = λ l. p .row row ∙ ap rowBy (not-there (v .rows) row (omega arith));
     }
 
