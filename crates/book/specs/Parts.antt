@@ -1,4 +1,4 @@
--- 01, "The roster book": what a book's parts are, for every byte string: the table, the policies, and staff number and holdings by row. A
+-- 01, "The roster book": what a book's parts are, for every byte string: the codes, the table, the policies, and staff number and holdings by row. A
 -- refused book has no parts: its sections are taken to start at its end, where no count stands. Nothing here is proved: these are definitions.
 use mathlib.Core.Bool.{true, false}
 use mathlib.Core.List.{List, [], _∷_}
@@ -21,6 +21,8 @@ use Rattle.book.specs.declared.Reading.the-variants.{Good, Refused}
 use Rattle.book.specs.declared.Starts.{Starts}
 use Rattle.book.specs.declared.Place.{Place}
 use Rattle.book.specs.declared.Place.the-variants as place
+use Rattle.book.specs.declared.Coded.{Coded}
+use Rattle.book.specs.declared.Coded.the-variants as coded
 use Rattle.book.specs.declared.Seen.{Seen}
 use Rattle.book.specs.declared.Seen.the-variants as seen
 use Rattle.book.specs.declared.Book.{Book}
@@ -70,6 +72,20 @@ placeOf wide book start i =
       | true ↦ place.Nothing
       | false ↦ elim (ltb (length book) (at + wide)) [ true ↦ place.Nothing | false ↦ place.At at ]
     ]
+
+-- ---- its codes
+
+-- "The i-th code is bit i."
+abbrev pub codeFrom : List ℕ → Place → Coded
+codeFrom book (place.At at) = coded.Code (entryAt codes book at)
+codeFrom book place.Nothing = coded.NoSuchCode
+
+-- a code of a book whose sections start here
+abbrev pub codeAt : List ℕ → Starts → ℕ → Coded
+codeAt book starts i = codeFrom book (placeOf (width codes) book (starts .permissions) i)
+
+unfoldable pub codeCount : List ℕ → ℕ
+codeCount book = countAt book (startsIn book .permissions)
 
 -- ---- its rows
 

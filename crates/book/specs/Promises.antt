@@ -13,13 +13,15 @@ use Rattle.roster.specs.declared.Table.{Table}
 use Rattle.book.specs.Layout.{Contents, Each, LayoutOf, section, codeWidths, codeFields, rowWidths, rowFields, hasPersons, lead}
 use Rattle.book.specs.Reading.{Found, formOf, looks}
 use Rattle.book.specs.declared.Form.{Form}
-use Rattle.book.specs.Parts.{startsIn, rowByNumber, heldOr0, tableOf, policyCount, policyAt}
+use Rattle.book.specs.Parts.{startsIn, codeCount, codeAt, rowByNumber, heldOr0, tableOf, policyCount, policyAt}
 use Rattle.book.specs.declared.Fault.{Fault}
 use Rattle.book.specs.declared.Look.the-variants.{Sound, Faulty}
 use Rattle.book.specs.declared.Reading.{Reading}
 use Rattle.book.specs.declared.Reading.the-variants as read
 use Rattle.book.specs.declared.Starts.{Starts}
 use Rattle.book.specs.declared.Row.{Row}
+use Rattle.book.specs.declared.Coded.{Coded}
+use Rattle.book.specs.declared.Coded.the-variants as coded
 use Rattle.book.specs.declared.Seen.{Seen}
 use Rattle.book.specs.declared.Seen.the-variants as seen
 use Rattle.book.specs.declared.Book.{Book}
@@ -59,7 +61,11 @@ pub record Allows (book : List ℕ) (r : Reading) : Type 0 where
 
 -- ---- the parts of a book
 
--- what is answered of a row, and of a policy, that is there or not
+-- what is answered of a code, a row and a policy that is there or not
+abbrev pub codeBy : Option ℕ → Coded
+codeBy none = coded.NoSuchCode
+codeBy (some code) = coded.Code code
+
 abbrev pub rowBy : Option Row → Seen
 rowBy none = seen.NoSuchRow
 rowBy (some row) = seen.Row row
@@ -75,9 +81,11 @@ tableFor v = record {
   rows = length (v .rows);
 }
 
--- what the form, the table, the policies and the rows of a book are that has these values
+-- what the form, the codes, the table, the policies and the rows of a book are that has these values
 pub record PartsOf (v : Contents) (book : List ℕ) : Type 0 where
   pub form : formOf book ≡ v .form
+  pub codes : codeCount book ≡ length (v .codes)
+  pub code : (i : ℕ) → codeAt book (startsIn book) i ≡ codeBy (getElem? (v .codes) i)
   pub table : tableOf book ≡ tableFor v
   pub policies : policyCount book ≡ length (v .policies)
   pub policy : (i : ℕ) → policyAt book i ≡ policyBy (getElem? (v .policies) i)

@@ -50,8 +50,12 @@ countFaultIn Permissions = codes .countFault
 countFaultIn Rows = fault.Rows
 countFaultIn Policies = policies .countFault
 
+-- a count that is whole, and one of the book
+abbrev pub countLookIn : Section → ℕ → Look
+countLookIn section count = faultIf (outIn section count) (countFaultIn section) Sound
+
 abbrev pub countIn : Section → List ℕ → ℕ → Look
-countIn section book at = wholeThen book at 1 (faultIf (outIn section (countAt book at)) (countFaultIn section) Sound)
+countIn section book at = wholeThen book at 1 (countLookIn section (countAt book at))
 
 -- what the policy makes that stands here
 abbrev pub madeAt : List ℕ → ℕ → Made

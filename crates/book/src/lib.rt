@@ -1,7 +1,7 @@
 // The roster book: the bytes by which a site hands over its permissions, its rows and its policies. `read` says of every byte string
 // whether it is a good book or what its first fault is; the functions after it hand out a good book's parts. specs/Layout says what a book
 // is, specs/Reading what is refused and where. A book has one of two forms, told by its first byte.
-mod sections;
+pub mod sections;
 
 use roster::Made;
 use roster::Policy;
@@ -12,13 +12,14 @@ use sections::cut;
 use sections::policy_from;
 use sections::row_from;
 use sections::section_step;
+use sections::two;
 use sections::width;
 ghost use mathlib.Core.Path.{_≡_};
 ghost use Rattle.sets.specs.Arrays.{tabulate};
 ghost use Rattle.roster.specs.Limits.{rowLimit};
 ghost use Rattle.book.specs.Faults.{faultNumber};
 ghost use Rattle.book.specs.Reading.{formOf, front, readOf};
-ghost use Rattle.book.specs.Parts.{startsIn, placeOf, rowAt, rowOf, rowByNumber, heldOr0, tableOf, policyCount, policyIn, policyAt};
+ghost use Rattle.book.specs.Parts.{startsIn, placeOf, codeCount, codeAt, rowAt, rowOf, rowByNumber, heldOr0, tableOf, policyCount, policyIn, policyAt};
 ghost use Rattle.book.specs.Promises.{ViewOf};
 ghost use Rattle.book.specs.Steps.{widthIn, readPolicies, readRows};
 
@@ -76,6 +77,12 @@ pub enum Seen {
     NoSuchRow,
 }
 
+// A permission's code by its index.
+pub enum Coded {
+    Code(u16),
+    NoSuchCode,
+}
+
 // A policy by its index.
 pub enum Listed {
     Policy(Policy),
@@ -117,7 +124,7 @@ impl Form {
 // ---- what the reader goes by; what is public of it is so only for the laws of crates above, which name it
 
 // The sections, in their order.
-enum Section {
+pub enum Section {
     Permissions,
     Rows,
     Policies,
@@ -250,6 +257,32 @@ fn place_of(book: &[u8], form: Form, section: Section, start: usize, i: usize) -
         return Place::Nothing;
     }
     Place::At(at)
+}
+
+// How many permissions a book lists; a refused one has none.
+pub fn code_count(book: &[u8]) -> usize
+    ensures reply { λ r. ⌜ r ≡ codeCount (now (book .entry)) ⌝ }
+    ensures kept { λ _. ⌜ now (book .exit) ≡ now (book .entry) ⌝ }
+{
+    let starts = starts_in(book);
+    count_at(book, starts.permissions)
+}
+
+// The i-th code of a book whose sections start here.
+pub fn code_at(book: &[u8], starts: Starts, i: usize) -> Coded
+    ensures reply { λ r. ⌜ r ≡ codeAt (now (book .entry)) starts i ⌝ }
+    ensures kept { λ _. ⌜ now (book .exit) ≡ now (book .entry) ⌝ }
+{
+    match place_of(
+        book,
+        form_of(book),
+        Section::Permissions,
+        starts.permissions,
+        i,
+    ) {
+        Place::At(at) => Coded::Code(two(book, at) as u16),
+        Place::Nothing => Coded::NoSuchCode,
+    }
 }
 
 // A row of a book whose sections start here.

@@ -1,5 +1,5 @@
 // What the reader does with one section: the numbers that stand at a place, one count or one entry looked over, and all entries in their turn.
-// specs/Steps says what each function answers.
+// specs/Steps says what each function answers. What is public here is what the writer of a book asks too.
 use crate::Before;
 use crate::Cursor;
 use crate::Fault;
@@ -17,7 +17,7 @@ ghost use Prim.Native.Nat.{_+_, _<_, _^_};
 ghost use lib.Dec.{ltb};
 ghost use lib.ListN.{length, getD};
 ghost use Rattle.book.specs.Reading.{number, pastListed, rowLook, width, codes, rowsOf, policies, entryAt, entryLook};
-ghost use Rattle.book.specs.Steps.{widthIn, leadIn, staysIn, outIn, countFaultIn, countIn, madeAt, lookIn, pastEntry, stepFrom, startAt, stepIn};
+ghost use Rattle.book.specs.Steps.{widthIn, leadIn, staysIn, outIn, countFaultIn, countLookIn, countIn, madeAt, lookIn, pastEntry, stepFrom, startAt, stepIn};
 
 // The widths of the entries, in bytes.
 const CODE_WIDTH: usize = 2;
@@ -41,7 +41,7 @@ fn byte(book: &[u8], at: usize) -> u8
 }
 
 // The little endian number of two bytes.
-fn two(book: &[u8], at: usize) -> u32
+pub(crate) fn two(book: &[u8], at: usize) -> u32
     ensures { λ r. ⌜ (r ≡ number 2 (now (book .entry)) at) × (r < 2 ^ 16) ⌝ }
 {
     if at >= book.len() {
@@ -83,7 +83,7 @@ pub(crate) fn cut(book: &[u8], at: usize, width: usize) -> bool
 }
 
 // Whether the set has a bit at or past the number of listed permissions. A shift by 32 is no operation, and no set has a bit there.
-fn past_listed(listed: usize, set: u32) -> bool
+pub fn past_listed(listed: usize, set: u32) -> bool
     ensures { λ r. ⌜ r ≡ pastListed listed set ⌝ }
 {
     if listed >= PERMISSIONS {
@@ -159,6 +159,16 @@ fn count_fault(section: Section) -> Fault
     }
 }
 
+// What is told of a whole count.
+pub fn count_look(section: Section, count: usize) -> Look
+    ensures { λ r. ⌜ r ≡ countLookIn section count ⌝ }
+{
+    if out_of_range(section, count) {
+        return Look::Faulty(count_fault(section));
+    }
+    Look::Sound
+}
+
 // A section's count.
 fn look_count(book: &[u8], section: Section, at: usize) -> Look
     ensures { λ r. ⌜ r ≡ countIn section (now (book .entry)) at ⌝ }
@@ -166,10 +176,7 @@ fn look_count(book: &[u8], section: Section, at: usize) -> Look
     if cut(book, at, 1) {
         return Look::Faulty(Fault::Short);
     }
-    if out_of_range(section, count_at(book, at)) {
-        return Look::Faulty(count_fault(section));
-    }
-    Look::Sound
+    count_look(section, count_at(book, at))
 }
 
 // A permission's code.
@@ -186,7 +193,7 @@ fn look_code(book: &[u8], cursor: Cursor) -> Look
 }
 
 // What is told of a whole row whose staff number does not ascend, or whose holdings go beyond the listed permissions.
-fn row_look(low: bool, beyond: bool) -> Look
+pub fn row_look(low: bool, beyond: bool) -> Look
     ensures { λ r. ⌜ r ≡ rowLook low beyond ⌝ }
 {
     if low {

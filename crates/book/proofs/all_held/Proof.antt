@@ -13,13 +13,13 @@ abbrev heldIn : List ℕ → Starts → ℕ → ℕ
 heldIn book starts row = heldOr0 (rowAt book starts row)
 
 abbrev Inv-loop : tie.InvT-loop
-Inv-loop book starts held₀ row₀ held row = Passed 64 (heldIn book starts) row held
+Inv-loop book starts held₀ row₀ held row = Passed 0 64 (heldIn book starts) row held
 
 abbrev μ-loop : tie.MeasureT-loop
 μ-loop book starts held₀ row₀ held row = 64 - row
 
 loop-holds : tie.Need-loop-holds Inv-loop μ-loop
-loop-holds c = passed-none 64 (heldIn (c .before .args .book .now) (c .before .args .starts))
+loop-holds c = passed-none 0 64 (heldIn (c .before .args .book .now) (c .before .args .starts))
 
 held-at-requires : tie.Need-held-at-requires Inv-loop μ-loop
 held-at-requires c κs = search needs
@@ -40,13 +40,13 @@ loop-again : tie.Need-loop-again Inv-loop μ-loop
 loop-again c =
     let l = c .before .before .loop in
     let a = c .before .before .before .before .args in
-    passed-stored 64 (heldIn (a .book .now) (a .starts)) (l .row) (c .held-at .result) (l .held) (l .inv) (c .before .loop-test .taken) (c .held-at .ensures)
+    passed-stored 0 64 (heldIn (a .book .now) (a .starts)) (l .row) (c .held-at .result) (l .held) (l .inv) (c .before .loop-test .taken) (c .held-at .ensures)
 
 returns : tie.Need-returns Inv-loop μ-loop
 returns c =
     let l = c .before .loop in
     let a = c .before .before .before .args in
-    passed-all 64 (heldIn (a .book .now) (a .starts)) (l .row) (l .held) (l .inv) (c .loop-test .left)
+    passed-all 0 64 (heldIn (a .book .now) (a .starts)) (l .row) (l .held) (l .inv) (c .loop-test .left)
 
 pub all-held-spec : {M : Type 1} → statement M
 all-held-spec =

@@ -1,4 +1,4 @@
--- The form, the table, the policies and the rows of a book are its values; a refused book has none. Assumes nothing.
+-- The form, the codes, the table, the policies and the rows of a book are its values; a refused book has none. Assumes nothing.
 use mathlib.Core.Path.{_≡_, refl, sym, ap, _∙_, ap₂, fun-ext}
 use mathlib.Core.Option.{some}
 use mathlib.Core.List.{List, [], _∷_}
@@ -11,11 +11,11 @@ use Rattle.roster.specs.Refusals.{madeBy}
 use Rattle.roster.specs.declared.Policy.{Policy}
 use Rattle.roster.specs.declared.Ruling.{Ruling}
 use Rattle.book.specs.Layout.{Contents, Each, PolicyFits, LayoutOf}
-use Rattle.book.specs.Reading.{rowsOf, policies, width, entryAt, countAt, formOf, readOf, startsOf}
-use Rattle.book.specs.Parts.{valuesAt, contentsBy, startsIn, startsBy, placeOf, rowPlace, rowFrom, rowByNumber, heldOr0, tableOf, policyCount, listedBy, policyFrom, policyAt}
-use Rattle.book.specs.Promises.{rowBy, policyBy, tableFor, PartsOf, nothing}
+use Rattle.book.specs.Reading.{codes, rowsOf, policies, width, entryAt, countAt, formOf, front, readOf, startsOf}
+use Rattle.book.specs.Parts.{valuesAt, contentsBy, startsIn, startsBy, placeOf, codeFrom, codeCount, codeAt, rowPlace, rowFrom, rowByNumber, heldOr0, tableOf, policyCount, listedBy, policyFrom, policyAt}
+use Rattle.book.specs.Promises.{codeBy, rowBy, policyBy, tableFor, PartsOf, nothing}
 use Rattle.book.specs.Laws.Sections.{entries-length}
-use Rattle.book.specs.Laws.Values.{policy-codec}
+use Rattle.book.specs.Laws.Values.{code-codec, policy-codec}
 use Rattle.book.specs.Laws.Books.{rowsAt, policiesAt, rowCodecOf, laid, layout-good}
 use Rattle.book.specs.Laws.Places.{standing, standing-value, standing-none}
 use Rattle.book.specs.declared.Fault.{Fault}
@@ -26,6 +26,10 @@ use Rattle.book.specs.declared.Row.{Row}
 use Rattle.book.specs.declared.Starts.{Starts}
 
 -- ---- what stands at a place decides
+
+code-from : (book : List ℕ) (p : Place) → codeFrom book p ≡ codeBy (standing codes book p)
+code-from book (At at) = refl
+code-from book Nothing = refl
 
 row-from : (book : List ℕ) (p : Place) → rowFrom book p ≡ rowBy (standing (rowsOf (formOf book)) book p)
 row-from book (At at) = refl
@@ -45,11 +49,13 @@ each-nth P [] i x h e = let z : _≡_ {A = ℕ} 0 1 = cc in absurd (omega arith)
 each-nth {A} P (y ∷ l) zero x h e = let same : y ≡ x = cc in rw same at (h .0)
 each-nth P (y ∷ l) (suc i) x h e = each-nth P l i x (h .1) e
 
--- the parts, once the rows and the policies are known by their places
+-- the parts, once the codes, the rows and the policies are known by their places
 module _ (v : Contents) (book : List ℕ) (listed : ℕ)
     (form : formOf book ≡ v .form)
+    (codesCounted : countAt book (startsIn book .permissions) ≡ length (v .codes))
     (rowCount : countAt book (startsIn book .rows) ≡ length (v .rows))
     (policyCounted : countAt book (startsIn book .policies) ≡ length (v .policies))
+    (code : (i : ℕ) → standing codes book (placeOf (width codes) book (startsIn book .permissions) i) ≡ getElem? (v .codes) i)
     (row : (i : ℕ) → standing (rowsOf (formOf book)) book (placeOf (width (rowsOf (formOf book))) book (startsIn book .rows) i) ≡ getElem? (v .rows) i)
     (policy : (i : ℕ) → standing policies book (placeOf (width policies) book (startsIn book .policies) i) ≡ getElem? (v .policies) i)
     (fits : Each (PolicyFits listed) (v .policies)) where
@@ -62,9 +68,11 @@ module _ (v : Contents) (book : List ℕ) (listed : ℕ)
       ap₂ (λ (f : ℕ → ℕ) (n : ℕ). record { holdings = tabulate rowLimit f; rows = n }) (fun-ext (λ i. ap heldOr0 (seen i))) rowCount
 
   parts : PartsOf v book
-  unfolding policyCount policyAt
+  unfolding codeCount policyCount policyAt
   parts = record {
     form = form;
+    codes = codesCounted;
+    code = λ i. code-from book (placeOf (width codes) book (startsIn book .permissions) i) ∙ ap codeBy (code i);
     table = table;
     policies = policyCounted;
     policy = λ i.
@@ -86,13 +94,17 @@ layout-parts v book l =
     let form = v .form in
     let h = laid v book l in
     let s = starts-good v book l in
+    let codesStart : startsIn book .permissions ≡ front form = ap (λ (x : Starts). x .permissions) s in
     let rowsStart : startsIn book .rows ≡ rowsAt form book = ap (λ (x : Starts). x .rows) s in
     let policiesStart : startsIn book .policies ≡ policiesAt form book = ap (λ (x : Starts). x .policies) s in
+    let codeValues : valuesAt codes book (front form) ≡ v .codes = ap (λ (x : Contents). x .codes) (h .contents) in
     let rowValues : valuesAt (rowsOf form) book (rowsAt form book) ≡ v .rows = ap (λ (x : Contents). x .rows) (h .contents) in
     let policyValues : valuesAt policies book (policiesAt form book) ≡ v .policies = ap (λ (x : Contents). x .policies) (h .contents) in
     parts v book (length (v .codes)) (h .form)
+    (rw codesStart (sym (entries-length codes _ code-codec book (front form + 1) (countAt book (front form))) ∙ ap length codeValues))
     (rw rowsStart (sym (entries-length (rowsOf form) _ (rowCodecOf form) book (rowsAt form book + 1) (countAt book (rowsAt form book))) ∙ ap length rowValues))
     (rw policiesStart (sym (entries-length policies _ policy-codec book (policiesAt form book + 1) (countAt book (policiesAt form book))) ∙ ap length policyValues))
+    (λ i. rw codesStart (standing-value codes book (front form) i (h .sound .first .whole) ∙ ap (λ (x : List ℕ). getElem? x i) codeValues))
     (λ i. rw (h .form, rowsStart) (standing-value (rowsOf form) book (rowsAt form book) i (h .sound .second .whole) ∙ ap (λ (x : List Row). getElem? x i) rowValues))
     (λ i. rw policiesStart (standing-value policies book (policiesAt form book) i (h .sound .third .whole) ∙ ap (λ (x : List Policy). getElem? x i) policyValues))
     (l .admitted .sound)
@@ -103,12 +115,15 @@ pub refused-parts : (book : List ℕ) (f : Fault) (at : ℕ) → readOf book ≡
 unfolding startsIn Each
 refused-parts book f at e =
     let s = ap (startsBy book) e in
+    let codesStart : startsIn book .permissions ≡ length book = ap (λ (x : Starts). x .permissions) s in
     let rowsStart : startsIn book .rows ≡ length book = ap (λ (x : Starts). x .rows) s in
     let policiesStart : startsIn book .policies ≡ length book = ap (λ (x : Starts). x .policies) s in
     let none-there = List·getD-eq-default book 0 {n = length book} (omega arith) in
     parts (nothing (formOf book)) book 0 refl
+    (rw codesStart none-there)
     (rw rowsStart none-there)
     (rw policiesStart none-there)
+    (λ i. rw codesStart (standing-none codes book (length book) i (omega arith)))
     (λ i. rw rowsStart (standing-none (rowsOf (formOf book)) book (length book) i (omega arith)))
     (λ i. rw policiesStart (standing-none policies book (length book) i (omega arith)))
     tt

@@ -9,13 +9,13 @@ use Rattle.crews.proofs.holders_of.Statement.{statement}
 use Rattle.crews.proofs.holders_of.Tie as tie
 
 abbrev Inv-loop : tie.InvT-loop
-Inv-loop holds holders₀ permission₀ holders permission = Passed 32 (holdersOf (at holds)) permission holders
+Inv-loop holds holders₀ permission₀ holders permission = Passed 0 32 (holdersOf (at holds)) permission holders
 
 abbrev μ-loop : tie.MeasureT-loop
 μ-loop holds holders₀ permission₀ holders permission = 32 - permission
 
 loop-holds : tie.Need-loop-holds Inv-loop μ-loop
-loop-holds c = passed-none 32 (holdersOf (at (c .args .holds .now)))
+loop-holds c = passed-none 0 32 (holdersOf (at (c .args .holds .now)))
 
 holders-at-requires : tie.Need-holders-at-requires Inv-loop μ-loop
 holders-at-requires c κs = search needs
@@ -36,13 +36,13 @@ loop-again : tie.Need-loop-again Inv-loop μ-loop
 loop-again c =
     let s = c .before .before .before .args in
     let l = c .before .before .loop in
-    passed-stored 32 (holdersOf (at (s .holds .now))) (l .permission) (c .holders-at .result) (l .holders) (l .inv) (c .before .loop-test .taken)
+    passed-stored 0 32 (holdersOf (at (s .holds .now))) (l .permission) (c .holders-at .result) (l .holders) (l .inv) (c .before .loop-test .taken)
     (c .holders-at .ensures)
 
 returns : tie.Need-returns Inv-loop μ-loop
 returns c =
     let l = c .before .loop in
-    (passed-all 32 (holdersOf (at (c .before .before .args .holds .now))) (l .permission) (l .holders) (l .inv) (c .loop-test .left), refl)
+    (passed-all 0 32 (holdersOf (at (c .before .before .args .holds .now))) (l .permission) (l .holders) (l .inv) (c .loop-test .left), refl)
 
 pub holders-of-spec : {M : Type 1} → statement M
 holders-of-spec =

@@ -12,13 +12,13 @@ use Rattle.crews.proofs.holdings_within.Statement.{statement}
 use Rattle.crews.proofs.holdings_within.Tie as tie
 
 abbrev Inv-loop : tie.InvT-loop
-Inv-loop task holdings rows within₀ row₀ within row = Passed 64 (holdsOf (record { holdings = holdings; rows = rows }) task) row within
+Inv-loop task holdings rows within₀ row₀ within row = Passed 0 64 (holdsOf (record { holdings = holdings; rows = rows }) task) row within
 
 abbrev μ-loop : tie.MeasureT-loop
 μ-loop task holdings rows within₀ row₀ within row = 64 - row
 
 loop-holds : tie.Need-loop-holds Inv-loop μ-loop
-loop-holds c = passed-none 64 (holdsOf (c .before .args .table) (c .before .args .task))
+loop-holds c = passed-none 0 64 (holdsOf (c .before .args .table) (c .before .args .task))
 
 mul-within : tie.Need-mul-within Inv-loop μ-loop
 mul-within c = search needs
@@ -46,16 +46,16 @@ loop-again c =
     ⊎-elim
     (λ w.
     rw (w .1)
-    (passed-stored 64 f (l .row) (bitAnd (getD (s .table .holdings) (l .row) 0) (s .task)) (l .within) (l .inv) (c .before .loop-test .taken)
+    (passed-stored 0 64 f (l .row) (bitAnd (getD (s .table .holdings) (l .row) 0) (s .task)) (l .within) (l .inv) (c .before .loop-test .taken)
     (sym (holds-row (s .table) (s .task) (l .row) (w .0 .taken)))))
-    (λ w. rw (w .1) (passed-left 64 f (l .row) (l .within) (l .inv) (c .before .loop-test .taken) (holds-past (s .table) (s .task) (l .row) (w .0 .left))))
+    (λ w. rw (w .1) (passed-left 0 64 f (l .row) (l .within) (l .inv) (c .before .loop-test .taken) (holds-past (s .table) (s .task) (l .row) (w .0 .left))))
     (c .if1 .came)
 
 returns : tie.Need-returns Inv-loop μ-loop
 returns c =
     let s = c .before .before .before .args in
     let l = c .before .loop in
-    passed-all 64 (holdsOf (s .table) (s .task)) (l .row) (l .within) (l .inv) (c .loop-test .left)
+    passed-all 0 64 (holdsOf (s .table) (s .task)) (l .row) (l .within) (l .inv) (c .loop-test .left)
 
 pub holdings-within-spec : {M : Type 1} → statement M
 holdings-within-spec =

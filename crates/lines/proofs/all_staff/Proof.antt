@@ -15,7 +15,7 @@ abbrev numberIn : List ℕ → Starts → ℕ → ℕ
 numberIn book starts row = staffOr0 (rowAt book starts row)
 
 abbrev Inv-loop : tie.InvT-loop
-Inv-loop book starts staff₀ row₀ staff row = Passed 64 (numberIn book starts) row staff
+Inv-loop book starts staff₀ row₀ staff row = Passed 0 64 (numberIn book starts) row staff
 
 abbrev μ-loop : tie.MeasureT-loop
 μ-loop book starts staff₀ row₀ staff row = 64 - row
@@ -24,7 +24,7 @@ starts-in-requires : tie.Need-starts-in-requires Inv-loop μ-loop
 starts-in-requires c κs = tt
 
 loop-holds : tie.Need-loop-holds Inv-loop μ-loop
-loop-holds c = passed-none 64 (numberIn (c .before .before .args .book .now) (c .starts-in .result))
+loop-holds c = passed-none 0 64 (numberIn (c .before .before .args .book .now) (c .starts-in .result))
 
 staff-of-requires : tie.Need-staff-of-requires Inv-loop μ-loop
 staff-of-requires c κs = tt
@@ -45,7 +45,7 @@ loop-again : tie.Need-loop-again Inv-loop μ-loop
 loop-again c =
     let l = c .before .before .loop in
     let f = numberIn (c .before .before .before .before .before .args .book .now) (c .before .before .before .starts-in .result) in
-    passed-stored 64 f (l .row) (c .staff-of .result) (l .staff) (l .inv) (c .before .loop-test .taken) (c .staff-of .ensures)
+    passed-stored 0 64 f (l .row) (c .staff-of .result) (l .staff) (l .inv) (c .before .loop-test .taken) (c .staff-of .ensures)
 
 returns : tie.Need-returns Inv-loop μ-loop
 unfolding staffOf
@@ -53,7 +53,7 @@ returns c =
     let l = c .before .loop in
     let p = c .before .before in
     let book = p .before .before .args .book .now in
-    passed-all 64 (numberIn book (p .starts-in .result)) (l .row) (l .staff) (l .inv) (c .loop-test .left)
+    passed-all 0 64 (numberIn book (p .starts-in .result)) (l .row) (l .staff) (l .inv) (c .loop-test .left)
     ∙ ap (λ (s : Starts). tabulate 64 (numberIn book s)) (p .starts-in .ensures .0)
 
 pub all-staff-spec : {M : Type 1} → statement M

@@ -1,0 +1,171 @@
+-- Laws of the looks at values: entry by entry they are the looks at the lists that are meant, and the first fault of a section ends it.
+-- Assumes nothing.
+use mathlib.Core.Path.{_≡_, refl, sym, ap, ap₂, _∙_, fun-ext, subst}
+use mathlib.Core.Bool.{false}
+use mathlib.Core.Logic.{_≢_}
+use mathlib.Core.Option.{Option, some, none}
+use mathlib.Core.List.{List, [], _∷_, _++_}
+use Prim.Native.Nat.{ℕ, zero, suc, _+_, _-_, _≤_, _<_}
+use native.Mathlib.Decide.{ℕ-discrete}
+use native.Mathlib.Omega.{arith}
+use lib.Dec.{leb}
+use borrow.Author.Tests.{ltb-false}
+use Rattle.sets.specs.Arrays.{tabulate}
+use Rattle.sets.specs.Laws.Arrays.{length-tabulate}
+use Rattle.roster.specs.Laws.Rulings.{inside}
+use Rattle.book.specs.Reading.{Kind, codes, rows, policies, faultIf, notAbove, staffOf}
+use Rattle.book.specs.Steps.{countLookIn}
+use Rattle.book.specs.Laws.First.{not-faulty}
+use Rattle.book.specs.declared.Fault.{Fault}
+use Rattle.book.specs.declared.Look.{Look}
+use Rattle.book.specs.declared.Look.the-variants.{Sound, Faulty}
+use Rattle.book.specs.declared.Section.{Section}
+use Rattle.book.specs.declared.Section.the-variants.{Permissions, Rows, Policies}
+use Rattle.values.specs.Values.{contentsFor}
+use Rattle.values.specs.Writing.{valueLooks, sectionIn, firstOf, faultIn}
+use Rattle.values.specs.Inner.Looks.{limitIn, codeIn, rowIn, policyIn, priorTo, leadOf, staysAt, lookWith, sectionLooks, told}
+use Rattle.values.specs.declared.Values.{Values}
+
+-- ---- one entry
+
+-- an index is within the section that it is known to be of
+pub within : {s t : Section} {i : ℕ} → s ≡ t → i < limitIn s → i < limitIn t
+within {i = i} e l = subst (λ (x : Section). i < limitIn x) e l
+
+-- how the number that an entry starts with stands to the one before
+pub first-stays : (v : Values) (section : Section) (i : ℕ) → i ≡ 0 → false ≡ staysAt v section i
+first-stays v section i e = sym (ap (staysAt v section) e)
+
+pub stays-by : {x y : ℕ} (v : Values) (section : Section) (i : ℕ) → i ≢ 0 → x ≡ leadOf v section i → y ≡ leadOf v section (i - 1)
+    → leb x y ≡ staysAt v section i
+stays-by v section zero n hx hy = absurd (n refl)
+stays-by v section (suc i) n hx hy =
+    let here : suc i - 1 ≡ i = omega arith in
+    ap₂ leb hx (hy ∙ ap (leadOf v section) here)
+
+-- the staff number of the row before is the number that it starts with
+pub staff-before : (v : Values) (i : ℕ) → staysAt v Rows i ≡ notAbove (staffOf (priorTo (rowIn v) i)) (rowIn v i .staff)
+staff-before v zero = refl
+staff-before v (suc i) = refl
+
+-- ---- by index
+
+-- the one before, where another comes before the first
+abbrev after : {A : Type 0} → Option A → (ℕ → A) → ℕ → Option A
+after b f zero = b
+after b f (suc i) = some (f i)
+
+module _ {A : Type 0} (kind : Kind A) (listed : ℕ) where
+  looks-after : (b : Option A) (n : ℕ) (f : ℕ → A)
+      → valueLooks kind listed b (tabulate n f) ≡ tabulate n (λ i. kind .faults listed (after b f i) (f i))
+  unfolding valueLooks tabulate
+  looks-after b zero f = refl
+  looks-after b (suc n) f =
+      ap (λ (l : List Look). kind .faults listed b (f 0) ∷ l)
+      (looks-after (some (f 0)) n (λ i. f (suc i))
+      ∙ ap (tabulate n) (fun-ext (λ i. ap (λ (o : Option A). kind .faults listed o (f (suc i))) (shift i))))
+    where
+      shift : (i : ℕ) → after (some (f 0)) (λ i. f (suc i)) i ≡ some (f i)
+      shift zero = refl
+      shift (suc i) = refl
+
+  first-has-none : (f : ℕ → A) (i : ℕ) → after none f i ≡ priorTo f i
+  first-has-none f zero = refl
+  first-has-none f (suc i) = refl
+
+  pub looks-by-index : (n : ℕ) (f : ℕ → A) → valueLooks kind listed none (tabulate n f) ≡ tabulate n (lookWith kind listed f)
+  looks-by-index n f =
+      looks-after none n f ∙ ap (tabulate n) (fun-ext (λ i. ap (λ (o : Option A). kind .faults listed o (f i)) (first-has-none f i)))
+
+-- ---- the first fault
+
+-- of the looks at entries in their order
+pub first-at : (n : ℕ) (look : ℕ → Look) (i : ℕ) (f : Fault) → i < n → ((j : ℕ) → j < i → look j ≡ Sound) → look i ≡ Faulty f
+    → firstOf (tabulate n look) ≡ some f
+unfolding firstOf tabulate
+first-at zero look i f l h e = absurd (omega arith)
+first-at (suc n) look zero f l h e = rw e
+first-at (suc n) look (suc i) f l h e =
+    rw (h 0 (omega arith)) (first-at n (λ j. look (suc j)) i f (omega arith) (λ j k. h (suc j) (omega arith)) e)
+
+pub first-none : (n : ℕ) (look : ℕ → Look) → ((j : ℕ) → j < n → look j ≡ Sound) → firstOf (tabulate n look) ≡ none
+unfolding firstOf tabulate
+first-none zero look h = refl
+first-none (suc n) look h = rw (h 0 (omega arith)) (first-none n (λ j. look (suc j)) (λ j k. h (suc j) (omega arith)))
+
+-- one sound look more
+pub one-more : (look : ℕ → Look) (i : ℕ) → ((j : ℕ) → j < i → look j ≡ Sound) → look i ≡ Sound → (j : ℕ) → j < i + 1 → look j ≡ Sound
+one-more look i h e j l = go (ℕ-discrete j i)
+  where
+    go : Dec (j ≡ i) → look j ≡ Sound
+    go (yes q) = ap look q ∙ e
+    go (no n) = h j (omega arith)
+
+-- of a look and those after it
+pub first-faulty : {x : Look} {f : Fault} (l : List Look) → x ≡ Faulty f → firstOf (x ∷ l) ≡ some f
+unfolding firstOf
+first-faulty l e = rw e
+
+pub first-sound : {x : Look} (l : List Look) → x ≡ Sound → firstOf (x ∷ l) ≡ firstOf l
+unfolding firstOf
+first-sound l e = rw e
+
+-- of looks and those after them
+look-append : {f : Fault} (x : Look) (l m : List Look) → (firstOf l ≡ some f → firstOf (l ++ m) ≡ some f)
+    → firstOf (x ∷ l) ≡ some f → firstOf (x ∷ (l ++ m)) ≡ some f
+unfolding firstOf
+look-append Sound l m ih e = ih e
+look-append (Faulty g) l m ih e = e
+
+pub append-faulty : {f : Fault} (l m : List Look) → firstOf l ≡ some f → firstOf (l ++ m) ≡ some f
+unfolding firstOf
+append-faulty [] m e = let z : _≡_ {A = ℕ} 0 1 = cc in cc
+append-faulty (x ∷ l) m e = look-append x l m (append-faulty l m) e
+
+look-on : (x : Look) (l m : List Look) → (firstOf l ≡ none → firstOf (l ++ m) ≡ firstOf m) → firstOf (x ∷ l) ≡ none
+    → firstOf (x ∷ (l ++ m)) ≡ firstOf m
+unfolding firstOf
+look-on Sound l m ih e = ih e
+look-on (Faulty g) l m ih e = let z : _≡_ {A = ℕ} 0 1 = cc in cc
+
+pub append-sound : (l m : List Look) → firstOf l ≡ none → firstOf (l ++ m) ≡ firstOf m
+unfolding firstOf
+append-sound [] m e = refl
+append-sound (x ∷ l) m e = look-on x l m (append-sound l m) e
+
+-- what is told says which it is
+pub told-faulty : {f : Fault} (o : Option Fault) → told o ≡ Faulty f → o ≡ some f
+told-faulty none e = let z : _≡_ {A = ℕ} 0 1 = cc in cc
+told-faulty (some g) e = cc
+
+pub told-sound : (o : Option Fault) → told o ≡ Sound → o ≡ none
+told-sound none e = refl
+told-sound (some g) e = let z : _≡_ {A = ℕ} 0 1 = cc in cc
+
+-- ---- all sections
+
+-- the looks at a section are those at the list that is meant
+section-looks : {A : Type 0} (kind : Kind A) (listed listed′ n : ℕ) (f : ℕ → A) → listed ≡ listed′
+    → sectionIn kind listed (tabulate n f) ≡ faultIf (kind .outOfRange n) (kind .countFault) Sound ∷ tabulate n (lookWith kind listed′ f)
+section-looks kind listed listed′ n f e =
+    ap₂ (λ (k : ℕ) (l : List Look). faultIf (kind .outOfRange k) (kind .countFault) Sound ∷ l)
+    (length-tabulate n f)
+    (looks-by-index kind listed n f ∙ ap (λ (k : ℕ). tabulate n (lookWith kind k f)) e)
+
+abbrev pub allLooks : Values → List Look
+allLooks v = sectionLooks v Permissions ++ (sectionLooks v Rows ++ sectionLooks v Policies)
+
+pub fault-by-sections : (v : Values) → faultIn (contentsFor v) ≡ firstOf (allLooks v)
+unfolding contentsFor
+fault-by-sections v =
+    let listed = length-tabulate (v .«code_count») (codeIn v) in
+    ap firstOf
+    (ap₂ (λ (l m : List Look). l ++ m) (section-looks codes 0 0 (v .«code_count») (codeIn v) refl)
+    (ap₂ (λ (l m : List Look). l ++ m) (section-looks rows _ (v .«code_count») (v .«row_count») (rowIn v) listed)
+    (section-looks policies _ (v .«code_count») (v .«policy_count») (policyIn v) listed)))
+
+-- a count that is sound is within its limit
+pub count-within : (section : Section) (n : ℕ) → countLookIn section n ≡ Sound → n ≤ limitIn section
+count-within Permissions n e = inside _ n (not-faulty _ _ _ e .0) .1
+count-within Rows n e = ltb-false _ _ (not-faulty _ _ _ e .0)
+count-within Policies n e = ltb-false _ _ (not-faulty _ _ _ e .0)

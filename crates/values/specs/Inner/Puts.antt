@@ -1,0 +1,21 @@
+-- What the writer's own functions append: the bytes of an entry by its index, and of a section. Nothing here is proved: these are definitions.
+use mathlib.Core.List.{List, [], _∷_, _++_}
+use Prim.Native.Nat.{ℕ, zero, suc}
+use Rattle.book.specs.Layout.{codeWidths, rowWidths, policyWidths, codeFields, rowFields, policyFields, fieldBytes}
+use Rattle.book.specs.declared.Section.{Section}
+use Rattle.book.specs.declared.Section.the-variants.{Permissions, Rows, Policies}
+use Rattle.values.specs.Inner.Looks.{countOf, codeIn, rowIn, policyIn}
+use Rattle.values.specs.declared.Values.{Values}
+
+abbrev pub entryBytes : Values → Section → ℕ → List ℕ
+entryBytes v Permissions i = fieldBytes codeWidths (codeFields (codeIn v i))
+entryBytes v Rows i = fieldBytes rowWidths (rowFields (rowIn v i))
+entryBytes v Policies i = fieldBytes policyWidths (policyFields (policyIn v i))
+
+-- n entries from this index on
+unfoldable pub inOrder : (ℕ → List ℕ) → ℕ → ℕ → List ℕ
+inOrder bytes i zero = []
+inOrder bytes i (suc n) = bytes i ++ inOrder bytes (suc i) n
+
+abbrev pub sectionBytes : Values → Section → List ℕ
+sectionBytes v section = countOf v section ∷ inOrder (entryBytes v section) 0 (countOf v section)

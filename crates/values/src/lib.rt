@@ -1,0 +1,104 @@
+// The values of a book, all at once: read from it, changed by whoever likes, and written as a book again. specs/Values says which values are
+// meant, specs/Writing what is refused and what is written.
+mod look;
+mod put;
+
+use book::Fault;
+use book::Look;
+use book::PERMISSIONS;
+use book::POLICIES;
+use book::Row;
+use book::Section;
+use look::first_fault;
+use put::length_of;
+use put::put_section;
+use roster::Policy;
+ghost use mathlib.Core.Path.{_≡_};
+ghost use Rattle.values.specs.Values.{contentsFor, noValues};
+ghost use Rattle.values.specs.Writing.{longest, unwrittenNumber, Writes};
+
+// So many bytes hold any book.
+pub const LONGEST: usize = 803;
+
+// What a book says. As many of each list are meant as its count says; what stands past the count plays no part.
+pub struct Values {
+    pub codes: [u16; PERMISSIONS],
+    pub code_count: usize,
+    pub rows: [Row; Policy::ROWS],
+    pub row_count: usize,
+    pub policies: [Policy; POLICIES],
+    pub policy_count: usize,
+}
+
+// Why values are not written. `number` gives the number that is published for each.
+pub enum Unwritten {
+    Fault(Fault),
+    Room,
+}
+
+// The reply to writing: the book's length, or why there is none, with the place 0.
+pub enum Wrote {
+    Written(usize),
+    Refused(Unwritten, usize),
+}
+
+impl Unwritten {
+    // The published number.
+    pub fn number(self) -> u32
+        ensures { λ r. ⌜ r ≡ unwrittenNumber self ⌝ }
+    {
+        match self {
+            Unwritten::Fault(fault) => fault.number(),
+            Unwritten::Room => 20,
+        }
+    }
+}
+
+impl Values {
+    // Nothing yet, to begin from.
+    pub fn none() -> Values
+        ensures { λ r. ⌜ r ≡ noValues ⌝ }
+    {
+        let nobody = Row {
+            staff: 0,
+            holdings: 0,
+        };
+        let unasked = Policy {
+            task: 0,
+            away: 0,
+            crews: 0,
+            size: 0,
+        };
+        let rows = [nobody; Policy::ROWS];
+        let policies = [unasked; POLICIES];
+        Values {
+            codes: [0; PERMISSIONS],
+            code_count: 0,
+            rows: rows,
+            row_count: 0,
+            policies: policies,
+            policy_count: 0,
+        }
+    }
+}
+
+// ---- writing
+
+// The book of these values at the front of a buffer, and its length. What is refused leaves the buffer as it was.
+pub fn write(values: Values, out: &mut [u8]) -> Wrote
+    ensures written { λ r. ⌜ Writes (contentsFor values) (now (out .entry)) (now (out .exit)) r ⌝ }
+    ensures limit { λ _. do ⌜ (← ⟦LONGEST⟧ .entry) ≡ longest ⌝ }
+{
+    match first_fault(values) {
+        Look::Faulty(fault) => {
+            return Wrote::Refused(Unwritten::Fault(fault), 0);
+        }
+        Look::Sound => {}
+    }
+    if out.len() < length_of(values) {
+        return Wrote::Refused(Unwritten::Room, 0);
+    }
+    let rows = put_section(out, 0, values, Section::Permissions);
+    let policies = put_section(out, rows, values, Section::Rows);
+    Wrote::Written(put_section(out, policies, values, Section::Policies))
+}

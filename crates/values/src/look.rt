@@ -1,0 +1,181 @@
+// What is amiss with values, in reading order: a section's count, then its entries, each beside the one before. specs/Inner/Looks says what
+// each function answers.
+use crate::Values;
+use book::Fault;
+use book::Look;
+use book::Row;
+use book::Section;
+use book::sections::count_look;
+use book::sections::past_listed;
+use book::sections::row_look;
+use roster::Made;
+use roster::Policy;
+ghost use mathlib.Core.Path.{_≡_};
+ghost use Prim.Native.Nat.{_≤_, _<_};
+ghost use mathlib.Core.Option.{none};
+ghost use Rattle.roster.specs.Limits.{rowLimit};
+ghost use Rattle.book.specs.Layout.{permissionLimit, policyLimit};
+ghost use Rattle.book.specs.Reading.{policies};
+ghost use Rattle.values.specs.Values.{contentsFor};
+ghost use Rattle.values.specs.Writing.{faultIn};
+ghost use Rattle.values.specs.Inner.Looks.{limitIn, countOf, codeIn, rowIn, policyIn, leadOf, staysAt, lookAt, entryLooks, sectionLooks, told, firstLook};
+
+// As a wider number.
+fn wide(code: u16) -> u32
+    ensures { λ r. ⌜ r ≡ code ⌝ }
+{
+    code as u32
+}
+
+// How many entries of the section are meant.
+pub(crate) fn count_of(values: Values, section: Section) -> usize
+    ensures { λ r. ⌜ r ≡ countOf values section ⌝ }
+{
+    match section {
+        Section::Permissions => values.code_count,
+        Section::Rows => values.row_count,
+        Section::Policies => values.policy_count,
+    }
+}
+
+// The code of this index, as a wider number.
+pub(crate) fn code_in(values: Values, i: usize) -> u32
+    requires { ⌜ i < permissionLimit ⌝ }
+    ensures { λ r. ⌜ r ≡ codeIn values i ⌝ }
+{
+    wide(values.codes[i])
+}
+
+// The row of this index.
+pub(crate) fn row_in(values: Values, i: usize) -> Row
+    requires { ⌜ i < rowLimit ⌝ }
+    ensures { λ r. ⌜ r ≡ rowIn values i ⌝ }
+{
+    values.rows[i]
+}
+
+// The policy of this index.
+pub(crate) fn policy_in(values: Values, i: usize) -> Policy
+    requires { ⌜ i < policyLimit ⌝ }
+    ensures { λ r. ⌜ r ≡ policyIn values i ⌝ }
+{
+    values.policies[i]
+}
+
+// The number that an entry starts with.
+fn lead(values: Values, section: Section, i: usize) -> u32
+    requires { ⌜ i < limitIn section ⌝ }
+    ensures { λ r. ⌜ r ≡ leadOf values section i ⌝ }
+{
+    match section {
+        Section::Permissions => code_in(values, i),
+        Section::Rows => row_in(values, i).staff,
+        Section::Policies => policy_in(values, i).task,
+    }
+}
+
+// Whether that number is not above the one before. The first entry has none before it, so any number may come first.
+fn stays(values: Values, section: Section, i: usize) -> bool
+    requires { ⌜ i < limitIn section ⌝ }
+    ensures { λ r. ⌜ r ≡ staysAt values section i ⌝ }
+{
+    if i == 0 {
+        return false;
+    }
+    lead(values, section, i) <= lead(values, section, i - 1)
+}
+
+// A permission's code.
+fn look_code(values: Values, i: usize) -> Look
+    requires { ⌜ i < limitIn Section.Permissions ⌝ }
+    ensures { λ r. ⌜ r ≡ lookAt values Section.Permissions i ⌝ }
+{
+    if stays(values, Section::Permissions, i) {
+        return Look::Faulty(Fault::Code);
+    }
+    Look::Sound
+}
+
+// A row.
+fn look_row(values: Values, i: usize) -> Look
+    requires { ⌜ i < limitIn Section.Rows ⌝ }
+    ensures { λ r. ⌜ r ≡ lookAt values Section.Rows i ⌝ }
+{
+    row_look(
+        stays(values, Section::Rows, i),
+        past_listed(values.code_count, row_in(values, i).holdings),
+    )
+}
+
+// A policy, where so many permissions are listed.
+fn policy_look(listed: usize, policy: Policy) -> Look
+    ensures { λ r. ⌜ r ≡ policies .faults listed none policy ⌝ }
+{
+    if past_listed(listed, policy.task) {
+        return Look::Faulty(Fault::Task);
+    }
+    match Policy::new(policy.task, policy.away, policy.crews, policy.size) {
+        Made::Refused(refusal) => Look::Faulty(Fault::Policy(refusal)),
+        Made::Policy(_) => Look::Sound,
+    }
+}
+
+// An entry of the section.
+fn look_value(values: Values, section: Section, i: usize) -> Look
+    requires { ⌜ i < limitIn section ⌝ }
+    ensures { λ r. ⌜ r ≡ lookAt values section i ⌝ }
+{
+    match section {
+        Section::Permissions => look_code(values, i),
+        Section::Rows => look_row(values, i),
+        Section::Policies => policy_look(values.code_count, policy_in(values, i)),
+    }
+}
+
+// A section's entries, as many as are meant.
+fn look_values(values: Values, section: Section, count: usize) -> Look
+    requires { ⌜ (count ≡ countOf values section) × (count ≤ limitIn section) ⌝ }
+    ensures { λ r. ⌜ r ≡ firstLook (entryLooks values section) ⌝ }
+{
+    let mut i = 0;
+    while i < count {
+        match look_value(values, section, i) {
+            Look::Faulty(fault) => {
+                return Look::Faulty(fault);
+            }
+            Look::Sound => {}
+        }
+        i += 1;
+    }
+    Look::Sound
+}
+
+// A section: its count, then its entries. A count out of range is told before any entry is looked at.
+fn look_section(values: Values, section: Section) -> Look
+    ensures { λ r. ⌜ r ≡ firstLook (sectionLooks values section) ⌝ }
+{
+    let count = count_of(values, section);
+    match count_look(section, count) {
+        Look::Faulty(fault) => Look::Faulty(fault),
+        Look::Sound => look_values(values, section, count),
+    }
+}
+
+// The first fault of all.
+pub(crate) fn first_fault(values: Values) -> Look
+    ensures { λ r. ⌜ r ≡ told (faultIn (contentsFor values)) ⌝ }
+{
+    match look_section(values, Section::Permissions) {
+        Look::Faulty(fault) => {
+            return Look::Faulty(fault);
+        }
+        Look::Sound => {}
+    }
+    match look_section(values, Section::Rows) {
+        Look::Faulty(fault) => {
+            return Look::Faulty(fault);
+        }
+        Look::Sound => {}
+    }
+    look_section(values, Section::Policies)
+}

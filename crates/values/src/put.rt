@@ -1,0 +1,94 @@
+// The bytes of values, appended at a place of a lent buffer. specs/Inner/Puts says what each function appends.
+use crate::Values;
+use crate::look::code_in;
+use crate::look::count_of;
+use crate::look::policy_in;
+use crate::look::row_in;
+use book::Row;
+use book::Section;
+use roster::Policy;
+use text::put;
+ghost use mathlib.Core.Path.{_≡_};
+ghost use mathlib.Core.List.{[], _∷_};
+ghost use Prim.Native.Nat.{_%_, _≤_, _<_};
+ghost use lib.ListN.{length};
+ghost use Rattle.book.specs.Layout.{littleEndian, fieldBytes, rowWidths, rowFields, policyWidths, policyFields, bytesOf};
+ghost use Rattle.text.specs.Text.{Appended};
+ghost use Rattle.values.specs.Values.{contentsFor};
+ghost use Rattle.values.specs.Inner.Looks.{limitIn, countOf, Counted};
+ghost use Rattle.values.specs.Inner.Puts.{entryBytes, sectionBytes};
+
+// The lowest byte of a number.
+fn low(n: u64) -> u8
+    ensures { λ r. ⌜ r ≡ n % 256 ⌝ }
+{
+    (n % 256) as u8
+}
+
+// A number in so many bytes, the lowest first.
+fn put_number(out: &mut [u8], at: usize, width: usize, n: u64) -> usize
+    ensures { λ r. ⌜ Appended (littleEndian width n) (now (out .entry)) at (now (out .exit)) r ⌝ }
+{
+    let mut next = at;
+    let mut left = n;
+    let mut i = 0;
+    while i < width {
+        next = put(out, next, low(left));
+        left = left / 256;
+        i += 1;
+    }
+    next
+}
+
+// A row: its staff number, its holdings.
+fn put_row(out: &mut [u8], at: usize, row: Row) -> usize
+    ensures { λ r. ⌜ Appended (fieldBytes rowWidths (rowFields row)) (now (out .entry)) at (now (out .exit)) r ⌝ }
+{
+    let next = put_number(out, at, 4, text::wide(row.staff));
+    put_number(out, next, 4, text::wide(row.holdings))
+}
+
+// A policy: P, then s, d, t in a byte each.
+fn put_policy(out: &mut [u8], at: usize, policy: Policy) -> usize
+    ensures { λ r. ⌜ Appended (fieldBytes policyWidths (policyFields policy)) (now (out .entry)) at (now (out .exit)) r ⌝ }
+{
+    let tasked = put_number(out, at, 4, text::wide(policy.task));
+    let spared = put_number(out, tasked, 1, text::wide(policy.away));
+    let crewed = put_number(out, spared, 1, policy.crews as u64);
+    put_number(out, crewed, 1, text::wide(policy.size))
+}
+
+// An entry of the section.
+fn put_entry(out: &mut [u8], at: usize, values: Values, section: Section, i: usize) -> usize
+    requires { ⌜ i < limitIn section ⌝ }
+    ensures { λ r. ⌜ Appended (entryBytes values section i) (now (out .entry)) at (now (out .exit)) r ⌝ }
+{
+    match section {
+        Section::Permissions => put_number(out, at, 2, text::wide(code_in(values, i))),
+        Section::Rows => put_row(out, at, row_in(values, i)),
+        Section::Policies => put_policy(out, at, policy_in(values, i)),
+    }
+}
+
+// A section: its count, then its entries.
+pub(crate) fn put_section(out: &mut [u8], at: usize, values: Values, section: Section) -> usize
+    requires { ⌜ countOf values section ≤ limitIn section ⌝ }
+    ensures { λ r. ⌜ Appended (sectionBytes values section) (now (out .entry)) at (now (out .exit)) r ⌝ }
+{
+    let count = count_of(values, section);
+    let mut next = put_number(out, at, 1, count as u64);
+    let mut i = 0;
+    while i < count {
+        next = put_entry(out, next, values, section, i);
+        i += 1;
+    }
+    next
+}
+
+// How long the book of these values is.
+pub(crate) fn length_of(values: Values) -> usize
+    requires { ⌜ Counted values ⌝ }
+    ensures { λ r. ⌜ r ≡ length (bytesOf (contentsFor values)) ⌝ }
+{
+    3 + 2 * values.code_count + 8 * values.row_count + 7 * values.policy_count
+}
