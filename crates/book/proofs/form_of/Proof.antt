@@ -1,8 +1,6 @@
 -- The first byte is 200 or it is not. Assumes nothing.
 use borrow.Author.Needs.{needs}
-use mathlib.Core.Path.{_≡_, sym, ap, _∙_}
-use Prim.Native.Nat.{ℕ}
-use lib.ListN.{getD}
+use mathlib.Core.Path.{sym, ap, _∙_}
 use borrow.Author.Tests.{eq-eqb, ne-eqb}
 use Rattle.book.specs.Reading.{formBy, formOf}
 use Rattle.book.proofs.Looks.{both}

@@ -3,7 +3,7 @@ use borrow.Author.Needs.{needs}
 use mathlib.Core.Path.{_≡_, sym, ap, _∙_}
 use mathlib.Core.List.{List}
 use Prim.Native.Nat.{ℕ}
-use Rattle.book.specs.Reading.{Found, formOf, front, startsOf, looksFromRows, readBy, readOf}
+use Rattle.book.specs.Reading.{Found, front, startsOf, looksFromRows, readBy, readOf}
 use Rattle.book.specs.Steps.{pastIn, stepIn, readRows}
 use Rattle.book.specs.declared.Form.{Form}
 use Rattle.book.specs.declared.Section.the-variants.{Permissions}

@@ -12,7 +12,7 @@ use Rattle.roster.specs.declared.Policy.{Policy}
 use Rattle.roster.specs.declared.Ruling.{Ruling}
 use Rattle.book.specs.Layout.{Contents, Each, PolicyFits, LayoutOf}
 use Rattle.book.specs.Reading.{codes, rowsOf, policies, width, entryAt, countAt, formOf, front, readOf, startsOf}
-use Rattle.book.specs.Parts.{valuesAt, contentsBy, startsIn, startsBy, placeOf, codeFrom, codeCount, codeAt, rowPlace, rowFrom, rowByNumber, heldOr0, tableOf, policyCount, listedBy, policyFrom, policyAt}
+use Rattle.book.specs.Parts.{valuesAt, contentsBy, startsIn, startsBy, placeOf, codeFrom, codeCount, rowPlace, rowFrom, rowByNumber, heldOr0, tableOf, policyCount, listedBy, policyFrom, policyAt}
 use Rattle.book.specs.Promises.{codeBy, rowBy, policyBy, tableFor, PartsOf, nothing}
 use Rattle.book.specs.Laws.Sections.{entries-length}
 use Rattle.book.specs.Laws.Values.{code-codec, policy-codec}

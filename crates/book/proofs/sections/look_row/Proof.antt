@@ -6,7 +6,7 @@ use native.Mathlib.Omega.{arith}
 use Prim.Native.Nat.{ℕ, _+_}
 use lib.Dec.{ltb}
 use lib.ListN.{length}
-use Rattle.book.specs.Reading.{rowsOf, width, entryAt, entryLook, fieldsAt, pastListed, rowLook}
+use Rattle.book.specs.Reading.{rowsOf, width, entryLook, fieldsAt, pastListed, rowLook}
 use Rattle.book.specs.declared.Row.{Row}
 use Rattle.book.specs.declared.Fault.the-variants.{Short}
 use Rattle.book.specs.declared.Look.{Look}
