@@ -3,10 +3,10 @@
 // is, specs/Reading what is refused and where. A book has one of two forms, told by its first byte.
 pub mod sections;
 
+use accounts::Accounts;
 use roster::Made;
 use roster::Policy;
 use roster::Refusal;
-use roster::Table;
 use sections::count_at;
 use sections::cut;
 use sections::policy_from;
@@ -15,11 +15,9 @@ use sections::section_step;
 use sections::two;
 use sections::width;
 ghost use mathlib.Core.Path.{_≡_};
-ghost use Rattle.sets.specs.Arrays.{tabulate};
-ghost use Rattle.roster.specs.Limits.{rowLimit};
 ghost use Rattle.book.specs.Faults.{faultNumber};
 ghost use Rattle.book.specs.Reading.{formOf, front, readOf};
-ghost use Rattle.book.specs.Parts.{startsIn, placeOf, codeCount, codeAt, rowAt, rowOf, rowByNumber, heldOr0, tableOf, policyCount, policyIn, policyAt};
+ghost use Rattle.book.specs.Parts.{startsIn, placeOf, codeCount, codeAt, rowAt, rowOf, rowByNumber, rowOr0, accountsAt, accountsIn, policyCount, policyIn, policyAt};
 ghost use Rattle.book.specs.Promises.{ViewOf};
 ghost use Rattle.book.specs.Steps.{widthIn, readPolicies, readRows};
 
@@ -297,41 +295,48 @@ pub fn row_at(book: &[u8], starts: Starts, row: usize) -> Seen
     }
 }
 
-// A row that is not there holds nothing.
-fn held_at(book: &[u8], starts: Starts, row: usize) -> u32
-    ensures { λ r. ⌜ r ≡ heldOr0 (rowAt (now (book .entry)) starts row) ⌝ }
+// A row that is not there has no numbers and holds nothing.
+fn row_or_0(book: &[u8], starts: Starts, row: usize) -> Row
+    ensures { λ r. ⌜ r ≡ rowOr0 (rowAt (now (book .entry)) starts row) ⌝ }
 {
     match row_at(book, starts, row) {
-        Seen::Row(seen) => seen.holdings,
-        Seen::NoSuchRow => 0,
+        Seen::Row(seen) => seen,
+        Seen::NoSuchRow => Row {
+            staff: 0,
+            person: 0,
+            holdings: 0,
+        },
     }
 }
 
-// The holdings of all rows.
-fn all_held(book: &[u8], starts: Starts) -> [u32; Policy::ROWS]
-    ensures { λ r. ⌜ r ≡ tabulate rowLimit (λ row. heldOr0 (rowAt (now (book .entry)) starts row)) ⌝ }
+// The accounts of a book whose sections start here.
+fn accounts_at(book: &[u8], starts: Starts) -> Accounts
+    ensures { λ r. ⌜ r ≡ accountsAt (now (book .entry)) starts ⌝ }
 {
-    let mut held = [0u32; Policy::ROWS];
+    let mut holdings = [0u32; Policy::ROWS];
+    let mut persons = [0u32; Policy::ROWS];
     let mut row = 0;
     while row < Policy::ROWS {
-        held[row] = held_at(book, starts, row);
+        let seen = row_or_0(book, starts, row);
+        holdings[row] = seen.holdings;
+        persons[row] = seen.person;
         row += 1;
     }
-    held
+    let rows = count_at(book, starts.rows);
+    Accounts {
+        holdings: holdings,
+        persons: persons,
+        rows: rows,
+    }
 }
 
-// The table of a book; a refused one has no rows.
-pub fn table_of(book: &[u8]) -> Table
-    ensures reply { λ r. ⌜ r ≡ tableOf (now (book .entry)) ⌝ }
+// The accounts of a book; a refused one has no rows.
+pub fn accounts_of(book: &[u8]) -> Accounts
+    ensures reply { λ r. ⌜ r ≡ accountsIn (now (book .entry)) ⌝ }
     ensures kept { λ _. ⌜ now (book .exit) ≡ now (book .entry) ⌝ }
 {
     let starts = starts_in(book);
-    let rows = count_at(book, starts.rows);
-    let held = all_held(book, starts);
-    Table {
-        holdings: held,
-        rows: rows,
-    }
+    accounts_at(book, starts)
 }
 
 // How many policies a book has; a refused one has none.

@@ -35,10 +35,10 @@ merging-none f h = record {
   within = omega arith;
   few = omega arith;
   counted = sym (count-none f);
-  long-held = passed-none 64 f .long;
-  long-numbers = passed-none 64 f .long;
-  held-at = λ i. passed-none 64 f .ahead i (omega arith) ∙ sym (held-none f h i);
-  numbers-at = λ i. passed-none 64 f .ahead i (omega arith) ∙ sym (number-past f 0 i (omega (arith, count-none f)));
+  long-held = passed-none 0 64 f .long;
+  long-numbers = passed-none 0 64 f .long;
+  held-at = λ i. passed-none 0 64 f .ahead i (omega arith) ∙ sym (held-none f h i);
+  numbers-at = λ i. passed-none 0 64 f .ahead i (omega arith) ∙ sym (number-past f 0 i (omega (arith, count-none f)));
 }
 
 module _ (f h : ℕ → ℕ) (k : ℕ) (held numbers : List ℕ) (count : ℕ) (m : Merging f h k held numbers count) where
@@ -124,7 +124,7 @@ pub merged-all : (a : Accounts) (held numbers : List ℕ) (count k : ℕ) → k 
     → _≡_ {A = People} (record { table = record { holdings = held; rows = count }; numbers = numbers }) (peopleOf a)
 merged-all a held numbers count k e m =
     ap₂ {C = People} (λ (x y : List ℕ). record { table = record { holdings = x; rows = count }; numbers = y })
-    (tabulated 64 (holds a) held (m .long-held) (λ i l. m .held-at i ∙ ap (λ (n : ℕ). heldBy (at (a .persons)) (at (a .holdings)) n i) e))
-    (tabulated 64 (number a) numbers (m .long-numbers) (λ i l. m .numbers-at i ∙ ap (λ (n : ℕ). numberOf (at (a .persons)) n i) e))
+    (tabulated 0 64 (holds a) held (m .long-held) (λ i l. m .held-at i ∙ ap (λ (n : ℕ). heldBy (at (a .persons)) (at (a .holdings)) n i) e))
+    (tabulated 0 64 (number a) numbers (m .long-numbers) (λ i l. m .numbers-at i ∙ ap (λ (n : ℕ). numberOf (at (a .persons)) n i) e))
     ∙ ap {B = People} (λ (n : ℕ). record { table = record { holdings = tabulate 64 (holds a); rows = n }; numbers = tabulate 64 (number a) })
     (m .counted ∙ ap (countOf (at (a .persons))) e)

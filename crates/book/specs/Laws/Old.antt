@@ -1,6 +1,6 @@
 -- Old books move in nothing: a book that does not start with 200 is read, laid out and viewed as 01 has it; one that does was refused before.
 -- Every row of an old book is a person of its own. Assumes nothing.
-use mathlib.Core.Path.{_≡_, refl, ap, ap₂, _∙_}
+use mathlib.Core.Path.{_≡_, refl, sym, ap, ap₂, _∙_}
 use mathlib.Core.Logic.{_≢_}
 use mathlib.Core.Bool.{false}
 use mathlib.Core.Option.{Option, some, none}
@@ -10,11 +10,14 @@ use native.Mathlib.Decide.{decLt}
 use native.Mathlib.Omega.{arith}
 use lib.ListN.{length, getD, getElem?}
 use borrow.Author.Tests.{ne-eqb, le-ltb}
+use Rattle.accounts.specs.Meaning.{Different}
 use Rattle.book.specs.Layout.{Contents, codeWidths, rowWidths, policyWidths, codeFields, rowFields, policyFields, fieldBytes, joined, section, bytesOf, Below, Ascends, Own, hasPersons, Admitted}
 use Rattle.book.specs.Reading.{Found, fieldsAt, codes, rows, policies, countLook, entryLook, inTurn, countAt, sectionLooks, past, formBy, formOf, endLook, firstFault, readBy, readOf}
 use Rattle.book.specs.Parts.{rowPlace, rowFrom, rowAt}
 use Rattle.book.specs.OldBooks.{OldRow, oldRows, oldWidths, oldFields, oldBytes, oldStarts, oldRead, oldRowFrom, oldRowAt}
+use Rattle.book.specs.Promises.{accountsFor}
 use Rattle.book.specs.Laws.Parts.{each-nth}
+use Rattle.book.specs.Laws.View.{there, account-of}
 use Rattle.book.specs.declared.Fault.the-variants as fault
 use Rattle.book.specs.declared.Form.{Form}
 use Rattle.book.specs.declared.Form.the-variants.{Old}
@@ -141,3 +144,12 @@ old-own v a old i j x y e f same = go (decLt i j) (decLt j i)
     go (yes h) d = absurd (omega (arith, staff, ascending (λ row. row .staff) (v .rows) i j x y (a .staffAscends) h e f))
     go (no m) (yes h) = absurd (omega (arith, staff, ascending (λ row. row .staff) (v .rows) j i y x (a .staffAscends) h f e))
     go (no m) (no k) = omega arith
+
+-- and so of its accounts, which the merging then leaves as they are (`own-table` and `own-number` of the crate accounts)
+pub old-different : (v : Contents) → Admitted v → v .form ≡ Old → Different (accountsFor v)
+old-different v a old u w lu lw e =
+    let x = there (v .rows) u (omega arith) in
+    let y = there (v .rows) w (omega arith) in
+    let ux = account-of v u (x .0) (omega arith) (x .1) .0 in
+    let wy = account-of v w (y .0) (omega arith) (y .1) .0 in
+    old-own v a old u w (x .0) (y .0) (x .1) (y .1) (sym ux ∙ e ∙ wy)

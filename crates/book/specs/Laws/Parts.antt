@@ -1,4 +1,4 @@
--- The form, the codes, the table, the policies and the rows of a book are its values; a refused book has none. Assumes nothing.
+-- The form, the codes, the accounts, the policies and the rows of a book are its values; a refused book has none. Assumes nothing.
 use mathlib.Core.Path.{_≡_, refl, sym, ap, _∙_, ap₂, fun-ext}
 use mathlib.Core.Option.{some}
 use mathlib.Core.List.{List, [], _∷_}
@@ -10,10 +10,11 @@ use Rattle.roster.specs.Limits.{rowLimit}
 use Rattle.roster.specs.Refusals.{madeBy}
 use Rattle.roster.specs.declared.Policy.{Policy}
 use Rattle.roster.specs.declared.Ruling.{Ruling}
+use Rattle.accounts.specs.declared.Accounts.{Accounts}
 use Rattle.book.specs.Layout.{Contents, Each, PolicyFits, LayoutOf}
 use Rattle.book.specs.Reading.{codes, rowsOf, policies, width, entryAt, countAt, formOf, front, readOf, startsOf}
-use Rattle.book.specs.Parts.{valuesAt, contentsBy, startsIn, startsBy, placeOf, codeFrom, codeCount, rowPlace, rowFrom, rowByNumber, heldOr0, tableOf, policyCount, listedBy, policyFrom, policyAt}
-use Rattle.book.specs.Promises.{codeBy, rowBy, policyBy, tableFor, PartsOf, nothing}
+use Rattle.book.specs.Parts.{valuesAt, contentsBy, startsIn, startsBy, placeOf, codeFrom, codeCount, rowPlace, rowFrom, rowByNumber, rowOr0, accountsIn, policyCount, listedBy, policyFrom, policyAt}
+use Rattle.book.specs.Promises.{codeBy, rowBy, policyBy, accountsFor, PartsOf, nothing}
 use Rattle.book.specs.Laws.Sections.{entries-length}
 use Rattle.book.specs.Laws.Values.{code-codec, policy-codec}
 use Rattle.book.specs.Laws.Books.{rowsAt, policiesAt, rowCodecOf, laid, layout-good}
@@ -62,10 +63,13 @@ module _ (v : Contents) (book : List ℕ) (listed : ℕ)
   seen : (i : ℕ) → rowByNumber book i ≡ rowBy (getElem? (v .rows) i)
   seen i = row-from book (rowPlace book (startsIn book) i) ∙ ap rowBy (row i)
 
-  table : tableOf book ≡ tableFor v
-  unfolding tableOf
-  table =
-      ap₂ (λ (f : ℕ → ℕ) (n : ℕ). record { holdings = tabulate rowLimit f; rows = n }) (fun-ext (λ i. ap heldOr0 (seen i))) rowCount
+  -- the accounts are made of the rows
+  accounts : accountsIn book ≡ accountsFor v
+  unfolding accountsIn
+  accounts =
+      ap₂ {C = Accounts} (λ (f : ℕ → Row) (n : ℕ).
+      record { holdings = tabulate rowLimit (λ i. f i .holdings); persons = tabulate rowLimit (λ i. f i .person); rows = n })
+      (fun-ext (λ i. ap rowOr0 (seen i))) rowCount
 
   parts : PartsOf v book
   unfolding codeCount policyCount policyAt
@@ -73,7 +77,7 @@ module _ (v : Contents) (book : List ℕ) (listed : ℕ)
     form = form;
     codes = codesCounted;
     code = λ i. code-from book (placeOf (width codes) book (startsIn book .permissions) i) ∙ ap codeBy (code i);
-    table = table;
+    accounts = accounts;
     policies = policyCounted;
     policy = λ i.
         policy-from book listed (placeOf (width policies) book (startsIn book .policies) i)
