@@ -1,6 +1,6 @@
 -- Laws of the looks and of the first fault. Assumes nothing.
 use mathlib.Core.Path.{_≡_, refl, sym, ap, _∙_}
-use mathlib.Core.Bool.{Bool, true, false}
+use mathlib.Core.Bool.{Bool, false}
 use mathlib.Core.Option.{Option, some}
 use mathlib.Core.List.{List, [], _∷_, _++_}
 use Prim.Native.Nat.{ℕ, zero, suc, _+_, _-_, _*_, _≤_, _<_}
@@ -9,7 +9,7 @@ use native.Mathlib.Omega.{arith}
 use lib.Dec.{leb, ltb}
 use lib.ListN.{length}
 use borrow.Author.Tests.{ltb-false, lt-ltb, le-ltb}
-use Rattle.book.specs.Reading.{Found, number, fieldsAt, entryAt, prior, notAbove, staffOf, faultIf, wholeThen, countLook, entryLook, inTurn, countAt, sectionLooks, past, endLook, firstFault, rowsOf}
+use Rattle.book.specs.Reading.{Found, number, fieldsAt, entryAt, prior, notAbove, staffOf, wholeThen, countLook, entryLook, inTurn, countAt, sectionLooks, past, endLook, firstFault, rowsOf}
 use Rattle.book.specs.Laws.First.{not-faulty, first-append}
 use Rattle.book.specs.Steps.{leadIn, staysIn, outIn, countIn, lookIn, widthIn, stepFrom, pastEntry, startAt, looksIn, pastIn, stepIn}
 use Rattle.book.specs.declared.Form.{Form}
@@ -31,16 +31,6 @@ use Rattle.book.specs.declared.Fault.the-variants as fault
 -- a reply, and that what was lent is as it was
 pub both : {A : Type 0} {lent : List ℕ} → A → A × (lent ≡ lent)
 both a = (a, refl)
-
--- a fault that is there, and one that is not: the test's answer and what it means
-pub faulty : {b t : Bool} (f : Fault) (rest : Look) → b ≡ t → b ≡ true → Faulty f ≡ faultIf t f rest
-faulty f rest e taken = sym (ap (λ (x : Bool). faultIf x f rest) (sym e ∙ taken))
-
-pub faulty-as : {b t : Bool} {f g : Fault} (rest : Look) → b ≡ t → b ≡ true → f ≡ g → Faulty f ≡ faultIf t g rest
-faulty-as {g = g} rest e taken h = ap Faulty h ∙ faulty g rest e taken
-
-pub past-fault : {b t : Bool} (f : Fault) {rest : Look} {look : Look} → b ≡ t → b ≡ false → look ≡ rest → look ≡ faultIf t f rest
-past-fault f {rest} e left h = h ∙ sym (ap (λ (x : Bool). faultIf x f rest) (sym e ∙ left))
 
 -- the answer that nothing is cut
 pub uncut : {b : Bool} (len at wide : ℕ) → b ≡ ltb len (at + wide) → b ≡ false → at + wide ≤ len

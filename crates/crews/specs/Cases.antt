@@ -1,6 +1,7 @@
 -- Filling crews, run: one table of tables, tasks and absences with the crews that are filled and the placements that it takes, and one
--- theorem: the definition gives these. Wherever 01 makes a choice, some case here moves with another one: which permission, which
--- candidate, when a crew is closed, when and how far to go back, and what is counted. Nothing but the definition runs.
+-- theorem: the definition gives these. Wherever the rules make a choice, some case here moves with another one: which permission, which
+-- candidate, which row begins a crew, when a crew is closed, when and how far to go back, and what is counted. Nothing but the definition
+-- runs.
 use mathlib.Core.Path.{_≡_, refl}
 use mathlib.Core.Bool.{true, false}
 use mathlib.Core.List.{List, [], _∷_, _++_, map}
@@ -55,7 +56,7 @@ cases =
     -- candidates in ascending order, each time all of them: not the later or the stronger first, nor only those not tried yet, nor one of
     -- two equal ones; the row past the count would do
     ∷ filled (tableWith 7 (16 ∷ 18 ∷ 22 ∷ 6 ∷ 20 ∷ 6 ∷ 6 ∷ 22 ∷ [])) 22 (4 ∷ 5 ∷ []) 3 2
-    gives crews ((1 ∷ 3 ∷ []) ∷ (2 ∷ []) ∷ (0 ∷ 6 ∷ []) ∷ []) 12
+    gives crews ((1 ∷ 3 ∷ []) ∷ (2 ∷ []) ∷ (0 ∷ 6 ∷ []) ∷ []) 11
     ∷ filled (tableOf (10 ∷ 0 ∷ 9 ∷ 2 ∷ 11 ∷ 3 ∷ 0 ∷ [])) 11 [] 3 2 gives crews ((2 ∷ 3 ∷ []) ∷ (4 ∷ []) ∷ (0 ∷ 5 ∷ []) ∷ []) 10
     ∷ filled (tableOf (6 ∷ 1 ∷ 6 ∷ 0 ∷ 5 ∷ 14 ∷ 13 ∷ 5 ∷ [])) 15 [] 2 2 gives crews ((1 ∷ 5 ∷ []) ∷ (0 ∷ 6 ∷ []) ∷ []) 9
     -- a crew is closed as soon as it covers and no sooner, with at most t rows, and keeps a row that it could do without
@@ -65,14 +66,22 @@ cases =
     ∷ filled (tableOf (12 ∷ 10 ∷ 4 ∷ 11 ∷ 13 ∷ 9 ∷ 7 ∷ 2 ∷ [])) 15 (0 ∷ 5 ∷ []) 3 3
     gives crews ((2 ∷ 3 ∷ []) ∷ (4 ∷ 7 ∷ []) ∷ (1 ∷ 6 ∷ []) ∷ []) 9
     ∷ filled (tableWith 5 (5 ∷ 21 ∷ 1 ∷ 21 ∷ 16 ∷ 21 ∷ [])) 21 (2 ∷ []) 3 2 gives crews ((0 ∷ 4 ∷ []) ∷ (1 ∷ []) ∷ (3 ∷ []) ∷ []) 8
-    ∷ filled (tableOf (4 ∷ 36 ∷ 12 ∷ 36 ∷ 56 ∷ 40 ∷ [])) 44 [] 3 64 gives crews ((0 ∷ 4 ∷ []) ∷ (1 ∷ 2 ∷ []) ∷ (3 ∷ 5 ∷ []) ∷ []) 29
+    ∷ filled (tableOf (4 ∷ 36 ∷ 12 ∷ 36 ∷ 56 ∷ 40 ∷ [])) 44 [] 3 64 gives crews ((0 ∷ 4 ∷ []) ∷ (1 ∷ 2 ∷ []) ∷ (3 ∷ 5 ∷ []) ∷ []) 27
     -- all exhausted, with fewer rows than crews to fill
-    ∷ filled (tableOf (26 ∷ 2 ∷ 64 ∷ 88 ∷ [])) 26 [] 4 2 gives none 7
-    ∷ filled (tableOf (5 ∷ 13 ∷ 1 ∷ 127 ∷ [])) 13 (2 ∷ []) 4 1 gives none 9
-    -- eight crews, with row 0 tried for each of them; the last permissions that there are
+    ∷ filled (tableOf (26 ∷ 2 ∷ 64 ∷ 88 ∷ [])) 26 [] 4 2 gives none 6
+    ∷ filled (tableOf (5 ∷ 13 ∷ 1 ∷ 127 ∷ [])) 13 (2 ∷ []) 4 1 gives none 4
+    -- eight crews, with row 0 tried for the first of them only; the last permissions that there are
     ∷ filled (tableOf (1 ∷ 3 ∷ 3 ∷ 0 ∷ 3 ∷ 3 ∷ 2 ∷ 3 ∷ 3 ∷ 3 ∷ 3 ∷ [])) 3 [] 8 1
-    gives crews ((1 ∷ []) ∷ (2 ∷ []) ∷ (4 ∷ []) ∷ (5 ∷ []) ∷ (7 ∷ []) ∷ (8 ∷ []) ∷ (9 ∷ []) ∷ (10 ∷ []) ∷ []) 16
+    gives crews ((1 ∷ []) ∷ (2 ∷ []) ∷ (4 ∷ []) ∷ (5 ∷ []) ∷ (7 ∷ []) ∷ (8 ∷ []) ∷ (9 ∷ []) ∷ (10 ∷ []) ∷ []) 9
     ∷ filled (tableOf (2 ^ 31 ∷ 0 ∷ 2 ^ 30 ∷ [])) (3 * 2 ^ 30) [] 1 64 gives crews ((0 ∷ 2 ∷ []) ∷ []) 2
+    -- crews begin in ascending order: book B's third policy; none but the first placed is bound, so that row 0 comes second; seven equal rows
+    ∷ filled H 3 [] 3 1 gives none 5
+    ∷ filled (tableOf (2 ∷ 3 ∷ 1 ∷ [])) 3 [] 2 2 gives crews ((1 ∷ []) ∷ (0 ∷ 2 ∷ []) ∷ []) 3
+    ∷ filled (tableOf (1 ∷ 3 ∷ [])) 3 [] 2 1 gives none 2
+    ∷ filled (tableOf (1 ∷ 1 ∷ 1 ∷ 1 ∷ 1 ∷ 1 ∷ 1 ∷ [])) 1 [] 8 1 gives none 127
+    ∷ filled (tableOf (1 ∷ 2 ∷ 3 ∷ 1 ∷ 2 ∷ [])) 3 [] 3 2 gives crews ((0 ∷ 1 ∷ []) ∷ (2 ∷ []) ∷ (3 ∷ 4 ∷ []) ∷ []) 5
+    ∷ filled (tableOf (1 ∷ 2 ∷ 3 ∷ 1 ∷ 2 ∷ [])) 3 [] 4 2 gives none 27
+    ∷ filled (tableOf (5 ∷ 3 ∷ 5 ∷ 3 ∷ 6 ∷ [])) 7 [] 3 3 gives none 59
     ∷ []
 
 -- ---- the fact

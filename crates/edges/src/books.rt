@@ -37,7 +37,7 @@ fn book_of_file(name: &[u8]) -> Draft {
 }
 
 // The number that is the first, second, .. word behind this one.
-fn argument(text: &[u8], at: usize, which: usize) -> u64 {
+pub(crate) fn argument(text: &[u8], at: usize, which: usize) -> u64 {
     let mut place = at;
     for i in 0..5 {
         if i >= which {
@@ -49,7 +49,7 @@ fn argument(text: &[u8], at: usize, which: usize) -> u64 {
 }
 
 // A book that has a name, by which the word that stands here calls it; else the book as it is.
-fn called(book: Draft, text: &[u8], at: usize) -> Draft {
+pub(crate) fn called(book: Draft, text: &[u8], at: usize) -> Draft {
     if is_word(text, at, b"B") {
         return b();
     }

@@ -3,6 +3,7 @@
 use crate::books::book_at;
 use crate::books::load;
 use crate::line::Line;
+use crate::pages;
 use crate::parts;
 use crate::questions;
 use crate::reader;
@@ -74,6 +75,12 @@ fn came(text: &[u8], at: usize, wanted: usize) -> Line {
     }
     if is_word(text, at, b"short") {
         return sheets::short(book_at(text, asked));
+    }
+    if is_word(text, at, b"writes") {
+        return pages::writes(text, asked);
+    }
+    if is_word(text, at, b"again") {
+        return pages::again(book_at(text, asked));
     }
     came_of_part(text, at)
 }

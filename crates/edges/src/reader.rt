@@ -27,7 +27,7 @@ pub(crate) fn read(book: Draft) -> Line {
     }
 }
 
-fn bad(number: u32, place: usize) -> Line {
+pub(crate) fn bad(number: u32, place: usize) -> Line {
     Line::empty()
         .word(b"bad ")
         .number(wide(number))

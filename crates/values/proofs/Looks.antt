@@ -4,7 +4,7 @@ use mathlib.Core.Path.{_≡_, refl, sym, ap, ap₂, _∙_, fun-ext, subst}
 use mathlib.Core.Bool.{false}
 use mathlib.Core.Logic.{_≢_}
 use mathlib.Core.Option.{Option, some, none}
-use mathlib.Core.List.{List, [], _∷_, _++_}
+use mathlib.Core.List.{List, _∷_, _++_}
 use Prim.Native.Nat.{ℕ, zero, suc, _+_, _-_, _≤_, _<_}
 use native.Mathlib.Decide.{ℕ-discrete}
 use native.Mathlib.Omega.{arith}
@@ -23,7 +23,8 @@ use Rattle.book.specs.declared.Section.{Section}
 use Rattle.book.specs.declared.Section.the-variants.{Permissions, Rows, Policies}
 use Rattle.values.specs.Values.{contentsFor}
 use Rattle.values.specs.Writing.{valueLooks, sectionIn, firstOf, faultIn}
-use Rattle.values.specs.Inner.Looks.{limitIn, codeIn, rowIn, policyIn, priorTo, leadOf, staysAt, lookWith, sectionLooks, told}
+use Rattle.values.specs.Laws.First.{orElse, first-append, neither, none-head}
+use Rattle.values.specs.Inner.Looks.{limitIn, Counted, codeIn, rowIn, policyIn, priorTo, leadOf, staysAt, lookWith, sectionLooks, told}
 use Rattle.values.specs.declared.Values.{Values}
 
 -- ---- one entry
@@ -111,27 +112,8 @@ unfolding firstOf
 first-sound l e = rw e
 
 -- of looks and those after them
-look-append : {f : Fault} (x : Look) (l m : List Look) → (firstOf l ≡ some f → firstOf (l ++ m) ≡ some f)
-    → firstOf (x ∷ l) ≡ some f → firstOf (x ∷ (l ++ m)) ≡ some f
-unfolding firstOf
-look-append Sound l m ih e = ih e
-look-append (Faulty g) l m ih e = e
-
-pub append-faulty : {f : Fault} (l m : List Look) → firstOf l ≡ some f → firstOf (l ++ m) ≡ some f
-unfolding firstOf
-append-faulty [] m e = let z : _≡_ {A = ℕ} 0 1 = cc in cc
-append-faulty (x ∷ l) m e = look-append x l m (append-faulty l m) e
-
-look-on : (x : Look) (l m : List Look) → (firstOf l ≡ none → firstOf (l ++ m) ≡ firstOf m) → firstOf (x ∷ l) ≡ none
-    → firstOf (x ∷ (l ++ m)) ≡ firstOf m
-unfolding firstOf
-look-on Sound l m ih e = ih e
-look-on (Faulty g) l m ih e = let z : _≡_ {A = ℕ} 0 1 = cc in cc
-
-pub append-sound : (l m : List Look) → firstOf l ≡ none → firstOf (l ++ m) ≡ firstOf m
-unfolding firstOf
-append-sound [] m e = refl
-append-sound (x ∷ l) m e = look-on x l m (append-sound l m) e
+pub append-by : {o : Option Fault} (l m : List Look) → firstOf l ≡ o → firstOf (l ++ m) ≡ orElse o (firstOf m)
+append-by l m e = first-append l m ∙ ap (λ (x : Option Fault). orElse x (firstOf m)) e
 
 -- what is told says which it is
 pub told-faulty : {f : Fault} (o : Option Fault) → told o ≡ Faulty f → o ≡ some f
@@ -169,3 +151,22 @@ pub count-within : (section : Section) (n : ℕ) → countLookIn section n ≡ S
 count-within Permissions n e = inside _ n (not-faulty _ _ _ e .0) .1
 count-within Rows n e = ltb-false _ _ (not-faulty _ _ _ e .0)
 count-within Policies n e = ltb-false _ _ (not-faulty _ _ _ e .0)
+
+-- what is told of a section's count, by what it is known to be
+pub count-told : {r t : Look} {n : ℕ} (section : Section) (m : ℕ) → r ≡ countLookIn section n → n ≡ m → r ≡ t → countLookIn section m ≡ t
+count-told section m e h w = ap (countLookIn section) (sym h) ∙ sym e ∙ w
+
+-- values without a fault have no more entries than there is room for
+pub sound-counted : (v : Values) → faultIn (contentsFor v) ≡ none → Counted v
+sound-counted v e = go
+  where
+    parts : (firstOf (sectionLooks v Permissions) ≡ none) × (firstOf (sectionLooks v Rows ++ sectionLooks v Policies) ≡ none)
+    parts = neither _ _ (sym (first-append (sectionLooks v Permissions) _) ∙ sym (fault-by-sections v) ∙ e)
+
+    others : (firstOf (sectionLooks v Rows) ≡ none) × (firstOf (sectionLooks v Policies) ≡ none)
+    others = neither _ _ (sym (first-append (sectionLooks v Rows) _) ∙ parts .1)
+
+    go : Counted v
+    go Permissions = count-within Permissions _ (none-head _ _ (parts .0) .0)
+    go Rows = count-within Rows _ (none-head _ _ (others .0) .0)
+    go Policies = count-within Policies _ (none-head _ _ (others .1) .0)

@@ -1,1 +1,93 @@
--- Laws of what is put. Assumes nothing.
+-- Laws of what is put: the sections of a book by index, and how long they are. Assumes nothing.
+use mathlib.Core.Path.{_≡_, refl, sym, ap, ap₂, _∙_, fun-ext}
+use mathlib.Core.List.{List, [], _∷_, _++_}
+use Prim.Native.Nat.{ℕ, zero, suc, _+_, _-_, _*_, _≤_, _<_}
+use native.Mathlib.Nat.{mul-suc}
+use native.Mathlib.Omega.{arith}
+use lib.ListN.{length, length-append}
+use Rattle.sets.specs.Arrays.{tabulate}
+use Rattle.sets.specs.Laws.Arrays.{length-tabulate}
+use Rattle.book.specs.Layout.{littleEndian, fieldBytes, joined, section, bytesOf, codeWidths, rowWidths, policyWidths, codeFields, rowFields, policyFields}
+use Rattle.book.specs.Steps.{widthIn}
+use Rattle.book.specs.declared.Section.{Section}
+use Rattle.book.specs.declared.Section.the-variants.{Permissions, Rows, Policies}
+use Rattle.values.specs.Values.{contentsFor}
+use Rattle.values.specs.Inner.Looks.{countOf, codeIn, rowIn, policyIn}
+use Rattle.values.specs.Inner.Puts.{entryBytes, inOrder, sectionBytes}
+use Rattle.values.specs.declared.Values.{Values}
+
+-- one byte, by what it is
+pub byte : {x y : ℕ} → x ≡ y → x ∷ [] ≡ y ∷ []
+byte e = ap (λ (b : ℕ). b ∷ []) e
+
+-- ---- entries by index
+
+-- one more, and the others
+pub order-next : (bytes : ℕ → List ℕ) (i n : ℕ) → i < n → inOrder bytes i (n - i) ≡ bytes i ++ inOrder bytes (i + 1) (n - (i + 1))
+unfolding inOrder
+order-next bytes i n l =
+    let e : n - i ≡ suc (n - (i + 1)) = omega arith in
+    let s : suc i ≡ i + 1 = omega arith in
+    ap (inOrder bytes i) e ∙ ap (λ (k : ℕ). bytes i ++ inOrder bytes k (n - (i + 1))) s
+
+pub order-last : (bytes : ℕ → List ℕ) (i n : ℕ) → n ≤ i → inOrder bytes i (n - i) ≡ []
+unfolding inOrder
+order-last bytes i n l = let e : n - i ≡ 0 = omega arith in ap (inOrder bytes i) e
+
+-- the entries of a list are those of its indices
+joined-order : {A : Type 0} (bytes : A → List ℕ) (f : ℕ → A) (k n : ℕ)
+    → joined bytes (tabulate n (λ i. f (k + i))) ≡ inOrder (λ i. bytes (f i)) k n
+unfolding joined tabulate inOrder
+joined-order bytes f k zero = refl
+joined-order {A} bytes f k (suc n) =
+    let first : k + 0 ≡ k = omega arith in
+    ap₂ (λ (a b : List ℕ). a ++ b) (ap (λ (i : ℕ). bytes (f i)) first)
+    (ap (λ (g : ℕ → A). joined bytes (tabulate n g)) (fun-ext (λ i. ap f (shift i))) ∙ joined-order bytes f (suc k) n)
+  where
+    shift : (i : ℕ) → k + suc i ≡ suc k + i
+    shift i = omega arith
+
+section-order : {A : Type 0} (widths : List ℕ) (fields : A → List ℕ) (f : ℕ → A) (n : ℕ)
+    → section widths fields (tabulate n f) ≡ n ∷ inOrder (λ i. fieldBytes widths (fields (f i))) 0 n
+section-order {A} widths fields f n =
+    ap₂ (λ (k : ℕ) (l : List ℕ). k ∷ l) (length-tabulate n f)
+    (ap (λ (g : ℕ → A). joined (λ x. fieldBytes widths (fields x)) (tabulate n g)) (fun-ext (λ i. ap f (from i)))
+    ∙ joined-order (λ x. fieldBytes widths (fields x)) f 0 n)
+  where
+    from : (i : ℕ) → i ≡ 0 + i
+    from i = omega arith
+
+-- the book by its sections
+pub bytes-by-sections : (v : Values)
+    → sectionBytes v Permissions ++ (sectionBytes v Rows ++ sectionBytes v Policies) ≡ bytesOf (contentsFor v)
+unfolding bytesOf contentsFor
+bytes-by-sections v =
+    sym (ap₂ (λ (a b : List ℕ). a ++ b) (section-order codeWidths codeFields (codeIn v) (v .«code_count»))
+    (ap₂ (λ (a b : List ℕ). a ++ b) (section-order rowWidths rowFields (rowIn v) (v .«row_count»))
+    (section-order policyWidths policyFields (policyIn v) (v .«policy_count»))))
+
+-- ---- how long
+
+entry-length : (v : Values) (section : Section) (i : ℕ) → length (entryBytes v section i) ≡ widthIn section
+unfolding fieldBytes littleEndian
+entry-length v Permissions i = refl
+entry-length v Rows i = refl
+entry-length v Policies i = refl
+
+order-length : (bytes : ℕ → List ℕ) (wide i n : ℕ) → ((j : ℕ) → length (bytes j) ≡ wide) → length (inOrder bytes i n) ≡ wide * n
+unfolding inOrder
+order-length bytes wide i zero h = omega arith
+order-length bytes wide i (suc n) h =
+    length-append (bytes i) (inOrder bytes (suc i) n)
+    ∙ omega (arith, h i, order-length bytes wide (suc i) n h, mul-suc wide n)
+
+section-length : (v : Values) (section : Section) → length (sectionBytes v section) ≡ 1 + widthIn section * countOf v section
+section-length v section = omega (arith, order-length (entryBytes v section) (widthIn section) 0 (countOf v section) (entry-length v section))
+
+pub book-length : (v : Values) → 3 + 2 * v .«code_count» + 8 * v .«row_count» + 7 * v .«policy_count» ≡ length (bytesOf (contentsFor v))
+book-length v =
+    let codes = sectionBytes v Permissions in
+    let rows = sectionBytes v Rows in
+    let policies = sectionBytes v Policies in
+    omega (arith, section-length v Permissions, section-length v Rows, section-length v Policies, length-append codes (rows ++ policies), length-append rows policies)
+    ∙ ap length (bytes-by-sections v)

@@ -1,2 +1,3 @@
+pub mod Gathered
 pub mod Looks
 pub mod Puts

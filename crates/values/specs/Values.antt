@@ -1,5 +1,5 @@
 -- Request 01: the values of a book, all at once, in memory. Nothing here is proved: these are definitions, and they run.
-use mathlib.Core.List.{List, []}
+use mathlib.Core.List.{List}
 use Prim.Native.Nat.{ℕ}
 use lib.ListN.{length, getD}
 use Rattle.sets.specs.Arrays.{tabulate}

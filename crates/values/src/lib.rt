@@ -1,5 +1,6 @@
 // The values of a book, all at once: read from it, changed by whoever likes, and written as a book again. specs/Values says which values are
 // meant, specs/Writing what is refused and what is written.
+mod gather;
 mod look;
 mod put;
 
@@ -9,12 +10,17 @@ use book::PERMISSIONS;
 use book::POLICIES;
 use book::Row;
 use book::Section;
+use gather::all_codes;
+use gather::all_policies;
+use gather::all_rows;
+use gather::nobody;
+use gather::unasked;
 use look::first_fault;
 use put::length_of;
 use put::put_section;
 use roster::Policy;
 ghost use mathlib.Core.Path.{_≡_};
-ghost use Rattle.values.specs.Values.{contentsFor, noValues};
+ghost use Rattle.values.specs.Values.{contentsFor, noValues, valuesOf};
 ghost use Rattle.values.specs.Writing.{longest, unwrittenNumber, Writes};
 
 // So many bytes hold any book.
@@ -59,18 +65,8 @@ impl Values {
     pub fn none() -> Values
         ensures { λ r. ⌜ r ≡ noValues ⌝ }
     {
-        let nobody = Row {
-            staff: 0,
-            holdings: 0,
-        };
-        let unasked = Policy {
-            task: 0,
-            away: 0,
-            crews: 0,
-            size: 0,
-        };
-        let rows = [nobody; Policy::ROWS];
-        let policies = [unasked; POLICIES];
+        let rows = [nobody(); Policy::ROWS];
+        let policies = [unasked(); POLICIES];
         Values {
             codes: [0; PERMISSIONS],
             code_count: 0,
@@ -79,6 +75,30 @@ impl Values {
             policies: policies,
             policy_count: 0,
         }
+    }
+}
+
+// ---- reading
+
+// All values of a book; a refused one has none.
+pub fn of_book(book: &[u8]) -> Values
+    ensures reply { λ r. ⌜ r ≡ valuesOf (now (book .entry)) ⌝ }
+    ensures kept { λ _. ⌜ now (book .exit) ≡ now (book .entry) ⌝ }
+{
+    let starts = book::starts_in(book);
+    let codes = all_codes(book, starts);
+    let rows = all_rows(book, starts);
+    let policies = all_policies(book, starts.policies);
+    let table = book::table_of(book);
+    let code_count = book::code_count(book);
+    let policy_count = book::policy_count(book);
+    Values {
+        codes: codes,
+        code_count: code_count,
+        rows: rows,
+        row_count: table.rows,
+        policies: policies,
+        policy_count: policy_count,
     }
 }
 

@@ -9,7 +9,6 @@ use book::Section;
 use roster::Policy;
 use text::put;
 ghost use mathlib.Core.Path.{_≡_};
-ghost use mathlib.Core.List.{[], _∷_};
 ghost use Prim.Native.Nat.{_%_, _≤_, _<_};
 ghost use lib.ListN.{length};
 ghost use Rattle.book.specs.Layout.{littleEndian, fieldBytes, rowWidths, rowFields, policyWidths, policyFields, bytesOf};
@@ -25,37 +24,38 @@ fn low(n: u64) -> u8
     (n % 256) as u8
 }
 
-// A number in so many bytes, the lowest first.
-fn put_number(out: &mut [u8], at: usize, width: usize, n: u64) -> usize
-    ensures { λ r. ⌜ Appended (littleEndian width n) (now (out .entry)) at (now (out .exit)) r ⌝ }
+// A number in two bytes, the lowest first.
+fn put_two(out: &mut [u8], at: usize, n: u64) -> usize
+    ensures { λ r. ⌜ Appended (littleEndian 2 n) (now (out .entry)) at (now (out .exit)) r ⌝ }
 {
-    let mut next = at;
-    let mut left = n;
-    let mut i = 0;
-    while i < width {
-        next = put(out, next, low(left));
-        left = left / 256;
-        i += 1;
-    }
-    next
+    let next = put(out, at, low(n));
+    put(out, next, low(n / 256))
+}
+
+// A number in four bytes, the lowest first.
+fn put_four(out: &mut [u8], at: usize, n: u64) -> usize
+    ensures { λ r. ⌜ Appended (littleEndian 4 n) (now (out .entry)) at (now (out .exit)) r ⌝ }
+{
+    let next = put_two(out, at, n);
+    put_two(out, next, n / 256 / 256)
 }
 
 // A row: its staff number, its holdings.
 fn put_row(out: &mut [u8], at: usize, row: Row) -> usize
     ensures { λ r. ⌜ Appended (fieldBytes rowWidths (rowFields row)) (now (out .entry)) at (now (out .exit)) r ⌝ }
 {
-    let next = put_number(out, at, 4, text::wide(row.staff));
-    put_number(out, next, 4, text::wide(row.holdings))
+    let next = put_four(out, at, text::wide(row.staff));
+    put_four(out, next, text::wide(row.holdings))
 }
 
 // A policy: P, then s, d, t in a byte each.
 fn put_policy(out: &mut [u8], at: usize, policy: Policy) -> usize
     ensures { λ r. ⌜ Appended (fieldBytes policyWidths (policyFields policy)) (now (out .entry)) at (now (out .exit)) r ⌝ }
 {
-    let tasked = put_number(out, at, 4, text::wide(policy.task));
-    let spared = put_number(out, tasked, 1, text::wide(policy.away));
-    let crewed = put_number(out, spared, 1, policy.crews as u64);
-    put_number(out, crewed, 1, text::wide(policy.size))
+    let tasked = put_four(out, at, text::wide(policy.task));
+    let spared = put(out, tasked, low(text::wide(policy.away)));
+    let crewed = put(out, spared, low(policy.crews as u64));
+    put(out, crewed, low(text::wide(policy.size)))
 }
 
 // An entry of the section.
@@ -64,7 +64,7 @@ fn put_entry(out: &mut [u8], at: usize, values: Values, section: Section, i: usi
     ensures { λ r. ⌜ Appended (entryBytes values section i) (now (out .entry)) at (now (out .exit)) r ⌝ }
 {
     match section {
-        Section::Permissions => put_number(out, at, 2, text::wide(code_in(values, i))),
+        Section::Permissions => put_two(out, at, text::wide(code_in(values, i))),
         Section::Rows => put_row(out, at, row_in(values, i)),
         Section::Policies => put_policy(out, at, policy_in(values, i)),
     }
@@ -76,7 +76,7 @@ pub(crate) fn put_section(out: &mut [u8], at: usize, values: Values, section: Se
     ensures { λ r. ⌜ Appended (sectionBytes values section) (now (out .entry)) at (now (out .exit)) r ⌝ }
 {
     let count = count_of(values, section);
-    let mut next = put_number(out, at, 1, count as u64);
+    let mut next = put(out, at, low(count as u64));
     let mut i = 0;
     while i < count {
         next = put_entry(out, next, values, section, i);

@@ -1,5 +1,5 @@
 -- The first fault of a list of looks. Assumes nothing.
-use mathlib.Core.Path.{_≡_, refl, ap}
+use mathlib.Core.Path.{_≡_, refl, sym, ap, _∙_}
 use mathlib.Core.Logic.{_⊎_, inl, inr}
 use mathlib.Core.Bool.{Bool, true, false}
 use mathlib.Core.List.{List, [], _∷_, _++_}
@@ -20,6 +20,16 @@ not-faulty false f rest e = (refl, e)
 
 pub no-fault : (b : Bool) (f : Fault) (rest : Look) → b ≡ false → rest ≡ Sound → faultIf b f rest ≡ Sound
 no-fault b f rest e h = rw e h
+
+-- a fault that is there, and one that is not: the test's answer and what it means
+pub faulty : {b t : Bool} (f : Fault) (rest : Look) → b ≡ t → b ≡ true → Faulty f ≡ faultIf t f rest
+faulty f rest e taken = sym (ap (λ (x : Bool). faultIf x f rest) (sym e ∙ taken))
+
+pub faulty-as : {b t : Bool} {f g : Fault} (rest : Look) → b ≡ t → b ≡ true → f ≡ g → Faulty f ≡ faultIf t g rest
+faulty-as {g = g} rest e taken h = ap Faulty h ∙ faulty g rest e taken
+
+pub past-fault : {b t : Bool} (f : Fault) {rest : Look} {look : Look} → b ≡ t → b ≡ false → look ≡ rest → look ≡ faultIf t f rest
+past-fault f {rest} e left h = h ∙ sym (ap (λ (x : Bool). faultIf x f rest) (sym e ∙ left))
 
 -- ---- a list of looks
 

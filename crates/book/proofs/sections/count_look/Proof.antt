@@ -3,7 +3,7 @@ use borrow.Author.Needs.{needs}
 use mathlib.Core.Path.{refl}
 use Rattle.book.specs.Steps.{countFaultIn}
 use Rattle.book.specs.declared.Look.the-variants.{Sound}
-use Rattle.book.proofs.Looks.{faulty-as, past-fault}
+use Rattle.book.specs.Laws.First.{faulty-as, past-fault}
 use Rattle.book.proofs.sections.count_look.Statement.{statement}
 use Rattle.book.proofs.sections.count_look.Tie as tie
 

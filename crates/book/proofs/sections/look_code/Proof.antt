@@ -3,7 +3,7 @@ use borrow.Author.Needs.{needs}
 use mathlib.Core.Path.{refl}
 use Rattle.book.specs.Reading.{entryLook, fieldsAt}
 use Rattle.book.specs.declared.Fault.the-variants.{Short, Code}
-use Rattle.book.proofs.Looks.{faulty, past-fault}
+use Rattle.book.specs.Laws.First.{faulty, past-fault}
 use Rattle.book.proofs.sections.look_code.Statement.{statement}
 use Rattle.book.proofs.sections.look_code.Tie as tie
 

@@ -3,7 +3,7 @@ use borrow.Author.Needs.{needs}
 use mathlib.Core.Path.{ap, _∙_}
 use Rattle.book.specs.Steps.{countLookIn}
 use Rattle.book.specs.declared.Fault.the-variants.{Short}
-use Rattle.book.proofs.Looks.{faulty, past-fault}
+use Rattle.book.specs.Laws.First.{faulty, past-fault}
 use Rattle.book.proofs.sections.look_count.Statement.{statement}
 use Rattle.book.proofs.sections.look_count.Tie as tie
 

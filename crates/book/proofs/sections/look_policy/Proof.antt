@@ -5,7 +5,8 @@ use native.Mathlib.Omega.{arith}
 use lib.ListN.{length}
 use Rattle.book.specs.Reading.{entryLook, fieldsAt, pastListed, byMade}
 use Rattle.book.specs.declared.Fault.the-variants.{Short, Task}
-use Rattle.book.proofs.Looks.{faulty, past-fault, uncut}
+use Rattle.book.specs.Laws.First.{faulty, past-fault}
+use Rattle.book.proofs.Looks.{uncut}
 use Rattle.book.proofs.sections.look_policy.Statement.{statement}
 use Rattle.book.proofs.sections.look_policy.Tie as tie
 

@@ -10,7 +10,8 @@ use Rattle.book.specs.Reading.{rowsOf, width, entryLook, fieldsAt, pastL
 use Rattle.book.specs.declared.Row.{Row}
 use Rattle.book.specs.declared.Fault.the-variants.{Short}
 use Rattle.book.specs.declared.Look.{Look}
-use Rattle.book.proofs.Looks.{faulty, past-fault, uncut, staff-stays}
+use Rattle.book.specs.Laws.First.{faulty, past-fault}
+use Rattle.book.proofs.Looks.{uncut, staff-stays}
 use Rattle.book.proofs.sections.look_row.Statement.{statement}
 use Rattle.book.proofs.sections.look_row.Tie as tie
 

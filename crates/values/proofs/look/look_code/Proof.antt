@@ -3,7 +3,7 @@ use borrow.Author.Needs.{needs}
 use mathlib.Core.Path.{refl}
 use Rattle.book.specs.declared.Fault.the-variants.{Code}
 use Rattle.book.specs.declared.Look.the-variants.{Sound}
-use Rattle.book.proofs.Looks.{faulty, past-fault}
+use Rattle.book.specs.Laws.First.{faulty, past-fault}
 use Rattle.values.proofs.look.look_code.Statement.{statement}
 use Rattle.values.proofs.look.look_code.Tie as tie
 

@@ -1,7 +1,6 @@
 -- A row is told by its two tests. Assumes nothing.
 use borrow.Author.Needs.{needs}
-use mathlib.Core.Path.{_≡_, ap, ap₂, _∙_}
-use mathlib.Core.Bool.{Bool}
+use mathlib.Core.Path.{ap, ap₂, _∙_}
 use Rattle.book.specs.Reading.{rowLook, pastListed}
 use Rattle.book.specs.declared.Row.{Row}
 use Rattle.values.proofs.Looks.{staff-before}

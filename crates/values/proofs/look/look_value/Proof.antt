@@ -4,7 +4,6 @@ use mathlib.Core.Path.{sym, ap, _∙_}
 use mathlib.Core.Option.{none}
 use Rattle.book.specs.Reading.{policies}
 use Rattle.book.specs.declared.Section.{Section}
-use Rattle.roster.specs.declared.Policy.{Policy}
 use Rattle.values.specs.Inner.Looks.{lookAt}
 use Rattle.values.proofs.Looks.{within}
 use Rattle.values.proofs.look.look_value.Statement.{statement}

@@ -3,7 +3,7 @@ use borrow.Author.Needs.{needs}
 use mathlib.Core.Path.{sym, ap, _∙_}
 use Rattle.book.specs.Reading.{byMade}
 use Rattle.book.specs.declared.Fault.the-variants.{Task}
-use Rattle.book.proofs.Looks.{faulty, past-fault}
+use Rattle.book.specs.Laws.First.{faulty, past-fault}
 use Rattle.values.proofs.look.policy_look.Statement.{statement}
 use Rattle.values.proofs.look.policy_look.Tie as tie
 

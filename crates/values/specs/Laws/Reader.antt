@@ -1,0 +1,134 @@
+-- "Refusals: 12 to 18 and 2 to 5 as in the reader, in reading order": what is looked at of values is what the reader looks at of their layout, so
+-- the fault is the same. Assumes nothing.
+use mathlib.Core.Path.{_≡_, refl, sym, ap, _∙_}
+use mathlib.Core.Bool.{Bool}
+use mathlib.Core.Option.{none, some}
+use mathlib.Core.List.{List, [], _∷_, _++_, map, append-assoc, append-nil}
+use Prim.Native.Nat.{ℕ, _+_, _*_, _^_, _≤_, _<_}
+use native.Mathlib.Nat.{mul-suc}
+use native.Mathlib.Omega.{arith}
+use lib.ListN.{length, drop, length-append}
+use borrow.Author.Tests.{le-ltb}
+use Rattle.roster.specs.declared.Policy.{Policy}
+use Rattle.book.specs.Layout.{Contents, Each, bytesOf, section, joined, codeWidths, codeFields, rowWidths, rowFields, policyWidths, policyFields}
+use Rattle.book.specs.Reading.{Kind, Found, faultIf, width, entryAt, prior, countLook, entryLook, inTurn, sectionLooks, past, listedIn, endLook, looks, looksFromRows, looksFromPolicies, codes, rows, policies, firstFault, startsOf, readOf}
+use Rattle.book.specs.Laws.Codec.{Fit, after, head-at, tail-at, fields-length, fields-read}
+use Rattle.book.specs.Laws.Sections.{Codec, bytesFor, Fits, joined-length, section-read}
+use Rattle.book.specs.Laws.Values.{code-codec, row-codec, policy-codec, each, each-both, code-fits, row-fits}
+use Rattle.book.specs.Laws.Books.{rowsAt, policiesAt}
+use Rattle.book.specs.declared.Fault.the-variants as fault
+use Rattle.book.specs.declared.Look.{Look}
+use Rattle.book.specs.declared.Look.the-variants.{Sound, Faulty}
+use Rattle.book.specs.declared.Before.{Before}
+use Rattle.book.specs.declared.Before.the-variants.{Nothing, Entry}
+use Rattle.book.specs.declared.Reading.{Reading}
+use Rattle.book.specs.declared.Reading.the-variants as read
+use Rattle.values.specs.Writing.{valueLooks, sectionIn, looksIn, firstOf, faultIn}
+use Rattle.values.specs.Promises.{Narrow, Laidable, faultOf}
+
+-- the looks without their places
+abbrev pub look : Found → Look
+look x = x .look
+
+-- ---- values that have a layout fit their fields
+
+policy-goes : (p : Policy) → (p .task < 2 ^ 32) × Narrow p → Fits policies policyFields policy-codec p
+unfolding Fit
+policy-goes p h = (h .0, (omega (arith, h .1 .0), (omega (arith, h .1 .1), (omega (arith, h .1 .2), tt))))
+
+-- ---- what is looked at
+
+module _ {A : Type 0} (kind : Kind A) (fields : A → List ℕ) (codec : Codec kind fields) (listed : ℕ) where
+  -- what is looked at of entries that stand in a book is what is looked at of their values
+  entries-looks : (vs : List A) (book : List ℕ) (before : Before) (at : ℕ) (rest : List ℕ) → Each (Fits kind fields codec) vs
+      → at ≤ length book → drop at book ≡ joined (bytesFor kind fields codec) vs ++ rest → at + width kind * length vs ≤ length book
+      → map look (inTurn (entryLook kind book listed) (width kind) before at (length vs)) ≡ valueLooks kind listed (prior (entryAt kind book) before) vs
+  unfolding joined Each inTurn entryLook valueLooks
+  entries-looks [] book before at rest f l e h = refl
+  entries-looks (x ∷ vs) book before at rest f l e h =
+      let e′ = e ∙ append-assoc (bytesFor kind fields codec x) (joined (bytesFor kind fields codec) vs) rest in
+      let here : entryAt kind book at ≡ x =
+      ap (kind .value) (fields-read (kind .widths) (fields x) book at (joined (bytesFor kind fields codec) vs ++ rest) (f .0) e′) ∙ codec .back x in
+      let there = after book at (bytesFor kind fields codec x) (joined (bytesFor kind fields codec) vs ++ rest) e′ in
+      let next : drop (at + width kind) book ≡ joined (bytesFor kind fields codec) vs ++ rest =
+      ap (λ (k : ℕ). drop (at + k) book) (sym (fields-length (kind .widths) (fields x) (f .0))) ∙ there in
+      let more = mul-suc (width kind) (length vs) in
+      let whole : at + width kind ≤ length book = omega arith in
+      let ih = entries-looks vs book (Entry at) (at + width kind) rest (f .1) whole next (omega arith) in
+      rw (le-ltb (length book) (at + width kind) whole, ih, here)
+
+  section-looks : (vs : List A) (book : List ℕ) (at : ℕ) (rest : List ℕ) → Each (Fits kind fields codec) vs
+      → drop at book ≡ section (kind .widths) fields vs ++ rest → at + length (section (kind .widths) fields vs) ≤ length book
+      → map look (sectionLooks kind book listed at) ≡ sectionIn kind listed vs
+  unfolding sectionLooks countLook
+  section-looks vs book at rest f e h =
+      let count = head-at book at (length vs) (joined (bytesFor kind fields codec) vs ++ rest) e in
+      let next = tail-at book at (length vs) (joined (bytesFor kind fields codec) vs ++ rest) e in
+      let long = joined-length kind fields codec vs f in
+      let whole : at + 1 ≤ length book = omega arith in
+      let ih = entries-looks vs book Nothing (at + 1) rest f whole next (omega arith) in
+      rw (le-ltb (length book) (at + 1) whole, count, ih)
+
+map-append : {A B : Type 0} (f : A → B) (l m : List A) → map f (l ++ m) ≡ map f l ++ map f m
+map-append f [] m = refl
+map-append f (x ∷ l) m = ap (λ (r : List _). f x ∷ r) (map-append f l m)
+
+joins : {A : Type 0} {a b c d : List A} → a ≡ b → c ≡ d → a ++ c ≡ b ++ d
+joins e h = rw (e, h)
+
+-- all that is looked at of a layout is what is looked at of its values, and then its end
+pub layout-looks : (v : Contents) → Laidable v → map look (looks (bytesOf v)) ≡ looksIn v ++ (Sound ∷ [])
+unfolding bytesOf
+layout-looks v f =
+    let book = bytesOf v in
+    let codesFit = each code-fits (v .codes) (f .typed .codes) in
+    let rowsFit = each (row-fits 32 (omega arith)) (v .rows) (f .typed .rows) in
+    let policiesFit = each policy-goes (v .policies) (each-both _ _ (v .policies) (f .typed .tasks) (f .narrow)) in
+    let sec1 = section codeWidths codeFields (v .codes) in
+    let sec2 = section rowWidths rowFields (v .rows) in
+    let sec3 = section policyWidths policyFields (v .policies) in
+    let one = section-read codes codeFields code-codec (v .codes) book 0 (sec2 ++ sec3) codesFit refl in
+    let two = section-read rows rowFields row-codec (v .rows) book (rowsAt book) sec3 rowsFit (one .left) in
+    let three = section-read policies policyFields policy-codec (v .policies) book (policiesAt book) [] policiesFit (two .left ∙ sym (append-nil sec3)) in
+    let long : length book ≡ length sec1 + (length sec2 + length sec3) =
+    length-append sec1 (sec2 ++ sec3) ∙ ap (λ (n : ℕ). length sec1 + n) (length-append sec2 sec3) in
+    let end1 = one .ends in
+    let end2 = two .ends in
+    let end3 = three .ends in
+    let look1 = section-looks codes codeFields code-codec 0 (v .codes) book 0 (sec2 ++ sec3) codesFit refl (omega arith) in
+    let look2 = section-looks rows rowFields row-codec (listedIn book) (v .rows) book (rowsAt book) sec3 rowsFit (one .left) (omega arith) in
+    let look3 = section-looks policies policyFields policy-codec (listedIn book) (v .policies) book (policiesAt book) [] policiesFit (two .left ∙ sym (append-nil sec3)) (omega arith) in
+    let end = le-ltb (past policies book (policiesAt book)) (length book) (omega arith) in
+    map-append look (sectionLooks codes book 0 0) (looksFromRows book (rowsAt book))
+    ∙ joins look1 (
+    map-append look (sectionLooks rows book (listedIn book) (rowsAt book)) (looksFromPolicies book (policiesAt book))
+    ∙ joins (look2 ∙ ap (λ (n : ℕ). sectionIn rows n (v .rows)) (one .count)) (
+    map-append look (sectionLooks policies book (listedIn book) (policiesAt book)) (endLook book (past policies book (policiesAt book)) ∷ [])
+    ∙ joins (look3 ∙ ap (λ (n : ℕ). sectionIn policies n (v .policies)) (one .count)) (ap (λ (b : Bool). faultIf b fault.Excess Sound ∷ []) end)))
+    ∙ sym (
+    append-assoc (sectionIn codes 0 (v .codes)) _ (Sound ∷ [])
+    ∙ ap (λ (l : List Look). sectionIn codes 0 (v .codes) ++ l) (append-assoc (sectionIn rows (length (v .codes)) (v .rows)) (sectionIn policies (length (v .codes)) (v .policies)) (Sound ∷ [])))
+
+-- ---- the first fault
+
+first-none : (l : List Look) → firstOf (l ++ (Sound ∷ [])) ≡ firstOf l
+unfolding firstOf
+first-none [] = refl
+first-none (Sound ∷ l) = first-none l
+first-none (Faulty f ∷ l) = refl
+
+fault-by : (good : Reading) → faultOf good ≡ none → (l : List Found) → faultOf (firstFault read.Refused good l) ≡ firstOf (map look l)
+unfolding firstFault firstOf
+fault-by good g [] = g
+fault-by good g (x ∷ l) = go (x .look) (fault-by good g l)
+  where
+    go : (k : Look) → faultOf (firstFault read.Refused good l) ≡ firstOf (map look l)
+        → faultOf (elim k [ Sound ↦ firstFault read.Refused good l | Faulty f ↦ read.Refused f (x .place) ]) ≡ elim k [ Sound ↦ firstOf (map look l) | Faulty f ↦ some f ]
+    go Sound ih = ih
+    go (Faulty f) ih = refl
+
+-- "12 to 18 and 2 to 5 as in the reader, in reading order": the first fault of the values is the one that the reader finds in their layout
+pub as-in-the-reader : (v : Contents) → Laidable v → faultOf (readOf (bytesOf v)) ≡ faultIn v
+unfolding readOf
+as-in-the-reader v f =
+    fault-by (read.Good (startsOf (bytesOf v))) refl (looks (bytesOf v)) ∙ ap firstOf (layout-looks v f) ∙ first-none (looksIn v)
