@@ -62,10 +62,14 @@ compare() { # BAR NAME WORDS...
 }
 
 # seed, rows, permissions, chance in 100 of holding each, policy question?, s, d, t, times
-compare 3 "filling, 60 rows, d 8, t 4" 38 60 10 15 0 0 8 4 10
-compare 3 "filling, 60 rows, d 8, t 3" 15 60 10 25 0 0 8 3 10
-compare 3 "filling, 60 rows, d 8, t 5" 141 60 10 20 0 0 8 5 10
-compare 3 "filling, 60 rows, d 8, no limit" 368 60 10 25 0 0 8 64 10
+# Seed 126 is the worst known for half-filled crews that are handed on by value.
+compare 3 "filling, d 8, t 4, seed 4" 4 60 10 15 0 0 8 4 10
+compare 3 "filling, d 8, t 3, seed 33" 33 60 10 25 0 0 8 3 10
+compare 3 "filling, d 8, t 5, seed 126" 126 60 10 20 0 0 8 5 10
+compare 3 "filling, d 8, t 5, seed 40" 40 60 10 20 0 0 8 5 10
+compare 3 "filling, d 8, t 5, seed 113" 113 60 10 20 0 0 8 5 10
+compare 3 "filling, d 8, no limit, seed 368" 368 60 10 25 0 0 8 64 10
+compare 3 "filling, d 8, no limit, seed 107" 107 60 10 25 0 0 8 64 10
 compare 8 "policy, 64 equal rows, s 16, d 1" 1 64 10 100 1 16 1 64 10000
 compare 8 "policy, 60 rows, s 6, d 2, t 4" 3 60 10 25 1 6 2 4 10
 compare 8 "policy, 60 rows, s 7, d 2, t 4" 61 60 10 25 1 7 2 4 10

@@ -23,7 +23,8 @@ use Rattle.absences.specs.declared.Search.{Search}
 use Rattle.absences.specs.declared.Course.{Course}
 use Rattle.absences.specs.declared.Course.the-variants.{Open, Blocked, Undecided}
 use Rattle.absences.specs.declared.Walked.{Walked}
-use Rattle.absences.specs.Tried.{Way, tried, Found, perAbsence, weighed}
+use Rattle.absences.specs.Tried.{Way, Found, perAbsence, weighed}
+use Rattle.absences.specs.Asked.{found}
 use Rattle.absences.specs.Replied.{repliedBy, policyReplyOf}
 use Rattle.absences.specs.Walk.{courseOf, walkedFrom, walkedOf, walkedBy, sized, replyFrom, searchedBy}
 use Rattle.absences.specs.Laws.Weighed.{andThen, weighed-append}
@@ -57,7 +58,7 @@ module _ (table : Table) (s : Search) (most : ℕ) (first : Filled)
     (e : first ≡ filledOf (s .allowance) perAbsence (filling table (s .task) (s .crews) (s .size) 0)) (nobody : Walked)
     (f : nobody ≡ walkedFrom (first .ending) 0 (first .units)) where
   abbrev tries : List ℕ → Found
-  tries = weighed table (s .task) (s .crews) (s .size)
+  tries = weighed (filling table (s .task) (s .crews) (s .size))
 
   abbrev rest : List ℕ
   rest = sized table s most
@@ -69,7 +70,7 @@ module _ (table : Table) (s : Search) (most : ℕ) (first : Filled)
   alone = f ∙ absent-told table (s .task) (s .crews) (s .size) (s .allowance) 0 0 first e
 
   both : tries (0 ∷ rest) ≡ andThen (tries (0 ∷ [])) (tries rest)
-  both = weighed-append table (s .task) (s .crews) (s .size) (0 ∷ []) rest
+  both = weighed-append (filling table (s .task) (s .crews) (s .size)) (0 ∷ []) rest
 
   -- the reply from r, if r is what all absences come to
   whole : (r : Walked) → r ≡ walkedOf (s .allowance) 0 (andThen (tries (0 ∷ [])) (tries rest))
@@ -114,7 +115,7 @@ module _ (table : Table) (s : Search) (most : ℕ) (first : Filled)
 
 -- the definition's reply, by the ruling
 pub ruled : (way : Way) (table : Table) (P away d t allowance : ℕ) (x : Ruling) → policyRuling (table .rows) P away d t ≡ x
-    → policyReplyOf way table P away d t allowance ≡ repliedBy x (weighed table P d t (tried way table P away)) (firstList table P d t 0) allowance
+    → policyReplyOf way table P away d t allowance ≡ repliedBy x (found way table P away d t) (firstList table P d t 0) allowance
 unfolding policyReplyOf
 ruled way table P away d t allowance x e =
-    ap (λ (y : Ruling). repliedBy y (weighed table P d t (tried way table P away)) (firstList table P d t 0) allowance) e
+    ap (λ (y : Ruling). repliedBy y (found way table P away d t) (firstList table P d t 0) allowance) e

@@ -21,8 +21,8 @@ use Rattle.roster.specs.Refusals.{policyRuling, namedRuling}
 use Rattle.roster.specs.Replies.{noCrews}
 use Rattle.roster.specs.Laws.Rank.{outweighsb}
 use Rattle.crews.specs.Filling.{placeOf, closeOf, placedOf, candidates, tryEach, search}
-use Rattle.crews.specs.Named.{NamedReply}
-use Rattle.crews.specs.Laws.Allowed.{namedReplyOf, named-allowed}
+use Rattle.crews.specs.Named.{NamedReply, namedReplyOf}
+use Rattle.crews.specs.Laws.Allowed.{named-allowed}
 use Rattle.absences.specs.Tried.{rowFrom, Way, full, skipping, joins, listed, sizesFrom, weighed}
 use Rattle.absences.specs.Asked.{PolicyReply}
 use Rattle.absences.specs.Replied.{policyReplyOf}

@@ -7,6 +7,7 @@ pub mod Only
 pub mod Weighed
 pub mod Decided
 pub mod Need
--- the demands, and what plays no part
+-- the demands, the rule of filling before, and what plays no part
 pub mod Demands
+pub mod Before
 pub mod Same

@@ -1,7 +1,7 @@
 -- A second table beside that of `Examples`, and one fact too: questions that another order of ranks, of sizes or of equal rows, another rule of
 -- skipping or of filling, another unit, limit or order of refusals would answer otherwise. The replies were worked out from 01's words, apart from
 -- the definitions.
-use mathlib.Core.Path.{refl}
+use mathlib.Core.Path.{_≡_, refl}
 use mathlib.Core.List.{List, [], _∷_, _++_}
 use Prim.Native.Nat.{ℕ}
 use lib.Count.{ones, onesIn, trailingZeros}
@@ -17,6 +17,7 @@ use Rattle.roster.specs.Refusals.{policyRuling, namedRuling}
 use Rattle.roster.specs.Laws.Rank.{outweighsb}
 use Rattle.crews.specs.Filling.{placeOf, closeOf, placedOf, candidates, tryEach, search}
 use Rattle.absences.specs.Tried.{rowFrom, Way, full, skipping, joins, listed, sizesFrom, weighed}
+use Rattle.absences.specs.Asked.{foundBefore}
 use Rattle.absences.specs.Replied.{policyReplyOf}
 use Rattle.absences.specs.Examples.{policy, named, Example, tableOf, setOfRows, yes-with, no-with, crews-with, none-with, undecided-with, refused-with, ample, H, AllAllowed, all-allowed}
 
@@ -35,6 +36,10 @@ E = tableOf (2 ∷ 2 ∷ 1 ∷ 2 ∷ 1 ∷ [])
 abbrev pub short : Table
 short = record { holdings = 1 ∷ 3 ∷ 3 ∷ replicate 61 0; rows = 1 }
 
+-- P = 3: each kind of row twice
+abbrev pub twice : Table
+twice = tableOf (1 ∷ 2 ∷ 3 ∷ 1 ∷ 2 ∷ 3 ∷ [])
+
 -- n rows that hold P = 1
 abbrev pub allOf : ℕ → Table
 allOf n = tableOf (replicate n 1)
@@ -48,16 +53,18 @@ eight = (0 ∷ []) ∷ (1 ∷ []) ∷ (2 ∷ []) ∷ (3 ∷ []) ∷ (4 ∷ []) �
 -- what both searches answer alike
 abbrev pub by-both : Way → List Example
 by-both way =
+    -- three crews, none of which is tried under another order: the third policy of book B
+    record { question = policy way H 3 0 3 1 ample; reply = no-with [] 6 }
     -- one crew, and three
-    record { question = policy way W 13 0 1 1 ample; reply = yes-with ((2 ∷ []) ∷ []) 3 }
-    ∷ record { question = policy way W 13 0 3 2 ample; reply = yes-with ((1 ∷ 4 ∷ []) ∷ (2 ∷ []) ∷ (5 ∷ 6 ∷ []) ∷ []) 15 }
+    ∷ record { question = policy way W 13 0 1 1 ample; reply = yes-with ((2 ∷ []) ∷ []) 3 }
+    ∷ record { question = policy way W 13 0 3 2 ample; reply = yes-with ((1 ∷ 4 ∷ []) ∷ (2 ∷ []) ∷ (5 ∷ 6 ∷ []) ∷ []) 14 }
     -- nobody absent blocks; and one person does, the only one who holds all, whatever s is
-    ∷ record { question = policy way W 13 0 2 1 ample; reply = no-with [] 8 }
+    ∷ record { question = policy way W 13 0 2 1 ample; reply = no-with [] 7 }
     ∷ record { question = policy way W 13 64 1 1 ample; reply = no-with (2 ∷ []) 7 }
-    ∷ record { question = policy way W 13 1 3 3 ample; reply = no-with (2 ∷ []) 44 }
+    ∷ record { question = policy way W 13 1 3 3 ample; reply = no-with (2 ∷ []) 34 }
     -- fewer rows than crews, where what can be placed is placed all the same; and nobody who holds anything of P
     ∷ record { question = policy way (tableOf (3 ∷ [])) 3 0 2 1 ample; reply = no-with [] 2 }
-    ∷ record { question = policy way (tableOf (1 ∷ 1 ∷ [])) 1 0 8 1 ample; reply = no-with [] 5 }
+    ∷ record { question = policy way (tableOf (1 ∷ 1 ∷ [])) 1 0 8 1 ample; reply = no-with [] 4 }
     ∷ record { question = policy way (tableOf (2 ∷ 0 ∷ [])) 5 2 1 1 ample; reply = no-with [] 1 }
     -- a crew of four, and the same limited to three
     ∷ record { question = policy way (tableOf (1 ∷ 2 ∷ 4 ∷ 8 ∷ [])) 15 0 1 64 ample; reply = yes-with ((0 ∷ 1 ∷ 2 ∷ 3 ∷ []) ∷ []) 5 }
@@ -79,9 +86,11 @@ by-skipping =
     record { question = policy skipping W 13 1 1 64 ample; reply = yes-with ((1 ∷ 2 ∷ []) ∷ []) 6 }
     ∷ record { question = policy skipping W 13 2 1 3 ample; reply = yes-with ((1 ∷ 2 ∷ []) ∷ []) 15 }
     ∷ record { question = policy skipping W 13 3 1 2 ample; reply = no-with (2 ∷ 4 ∷ 5 ∷ []) 27 }
+    -- three crews of two, unless both who hold all are away
+    ∷ record { question = policy skipping twice 3 2 3 2 ample; reply = no-with (2 ∷ 5 ∷ []) 23 }
     -- two crews: any one away, but not rows 1 and 2
     ∷ record { question = policy skipping W 13 1 2 2 ample; reply = yes-with ((1 ∷ 2 ∷ []) ∷ (4 ∷ 5 ∷ []) ∷ []) 10 }
-    ∷ record { question = policy skipping W 13 64 2 64 ample; reply = no-with (1 ∷ 2 ∷ []) 19 }
+    ∷ record { question = policy skipping W 13 64 2 64 ample; reply = no-with (1 ∷ 2 ∷ []) 18 }
     -- equal rows: the first of a kind is absent before the others
     ∷ record { question = policy skipping E 3 2 1 2 ample; reply = no-with (2 ∷ 4 ∷ []) 16 }
     ∷ record { question = policy skipping E 3 1 2 64 ample; reply = no-with (2 ∷ []) 15 }
@@ -101,8 +110,9 @@ abbrev pub by-full : List Example
 by-full =
     record { question = policy full W 13 1 1 64 ample; reply = yes-with ((1 ∷ 2 ∷ []) ∷ []) 23 }
     ∷ record { question = policy full W 13 3 1 2 ample; reply = no-with (2 ∷ 4 ∷ 5 ∷ []) 99 }
+    ∷ record { question = policy full twice 3 2 3 2 ample; reply = no-with (2 ∷ 5 ∷ []) 51 }
     ∷ record { question = policy full W 13 1 2 2 ample; reply = yes-with ((1 ∷ 2 ∷ []) ∷ (4 ∷ 5 ∷ []) ∷ []) 39 }
-    ∷ record { question = policy full W 13 64 2 64 ample; reply = no-with (1 ∷ 2 ∷ []) 48 }
+    ∷ record { question = policy full W 13 64 2 64 ample; reply = no-with (1 ∷ 2 ∷ []) 47 }
     ∷ record { question = policy full E 3 2 1 2 ample; reply = no-with (2 ∷ 4 ∷ []) 43 }
     ∷ record { question = policy full E 3 1 2 64 ample; reply = no-with (2 ∷ []) 20 }
     ∷ record { question = policy full (tableOf (1 ∷ 1 ∷ [])) 1 64 1 1 ample; reply = no-with (0 ∷ 1 ∷ []) 7 }
@@ -114,9 +124,9 @@ by-full =
 -- named absences
 abbrev pub by-name : List Example
 by-name =
-    record { question = named W 13 2 2 (setOfRows (1 ∷ 2 ∷ [])) ample; reply = none-with 8 }
-    ∷ record { question = named W 13 3 2 0 14; reply = crews-with ((1 ∷ 4 ∷ []) ∷ (2 ∷ []) ∷ (5 ∷ 6 ∷ []) ∷ []) 14 }
-    ∷ record { question = named W 13 3 2 0 13; reply = undecided-with 13 }
+    record { question = named W 13 2 2 (setOfRows (1 ∷ 2 ∷ [])) ample; reply = none-with 7 }
+    ∷ record { question = named W 13 3 2 0 13; reply = crews-with ((1 ∷ 4 ∷ []) ∷ (2 ∷ []) ∷ (5 ∷ 6 ∷ []) ∷ []) 13 }
+    ∷ record { question = named W 13 3 2 0 12; reply = undecided-with 12 }
     ∷ record { question = named H 3 2 2 (setOfRows (0 ∷ [])) 3; reply = crews-with ((1 ∷ 2 ∷ []) ∷ (3 ∷ []) ∷ []) 3 }
     ∷ record { question = named H 3 2 2 (setOfRows (0 ∷ [])) 2; reply = undecided-with 2 }
     ∷ record { question = named H 3 2 2 (setOfRows (0 ∷ [])) 0; reply = undecided-with 0 }
@@ -179,3 +189,11 @@ more = by-both skipping ++ by-both full ++ by-skipping ++ by-full ++ by-name ++ 
 pub more-hold : AllAllowed more
 unfolding bit sumTo toN cons? members filter hasb setOf ones onesIn trailingZeros ahead rank outweighsb placeOf closeOf placedOf candidates tryEach search rowFrom joins listed sizesFrom weighed policyRuling namedRuling policyReplyOf
 more-hold = all-allowed more refl refl
+
+-- ---- the rule of filling before
+
+-- what three of these questions needed by it
+pub needs-before : foundBefore skipping H 3 0 3 1 .need ∷ foundBefore skipping twice 3 2 3 2 .need ∷ foundBefore full twice 3 2 3 2 .need ∷ []
+    ≡ 10 ∷ 27 ∷ 55 ∷ []
+unfolding bit sumTo toN cons? members filter hasb setOf ones onesIn trailingZeros ahead rank outweighsb placeOf closeOf placedOf candidates tryEach search rowFrom joins listed sizesFrom weighed
+needs-before = refl

@@ -13,7 +13,8 @@ use Rattle.roster.specs.declared.Reply.{Reply}
 use Rattle.roster.specs.Refusals.{policyRuling}
 use Rattle.roster.specs.Replies.{noCrews, replyWith}
 use Rattle.crews.specs.Named.{firstList}
-use Rattle.absences.specs.Tried.{Way, tried, Found, weighed}
+use Rattle.absences.specs.Tried.{Way, Found}
+use Rattle.absences.specs.Asked.{found}
 
 -- "undecided, exactly if allowance < need"; else no if an absence that was tried blocks, and yes if none does
 abbrev pub judged : (decided blocked : Bool) → Verdict
@@ -31,4 +32,4 @@ repliedBy ruling.Admitted w crews allowance = replyWith crews (w .blocker) (w .n
 
 unfoldable pub policyReplyOf : Way → Table → ℕ → ℕ → ℕ → ℕ → ℕ → Reply
 policyReplyOf way table P s d t allowance =
-    repliedBy (policyRuling (table .rows) P s d t) (weighed table P d t (tried way table P s)) (firstList table P d t 0) allowance
+    repliedBy (policyRuling (table .rows) P s d t) (found way table P s d t) (firstList table P d t 0) allowance

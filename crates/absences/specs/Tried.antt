@@ -10,7 +10,7 @@ use Rattle.sets.specs.Sets.{with}
 use Rattle.roster.specs.declared.Table.{Table}
 use Rattle.roster.specs.Meaning.{rank}
 unfoldable pub use Rattle.roster.specs.Laws.Rank.{outweighsb}
-use Rattle.crews.specs.Filling.{Outcome, filling}
+use Rattle.crews.specs.Filling.{Outcome}
 
 -- the first of the n rows from u on that has rank r
 unfoldable pub rowFrom : Table → ℕ → ℕ → ℕ → ℕ → ℕ
@@ -73,12 +73,13 @@ abbrev pub unitsOf : Outcome → ℕ
 unitsOf o = perAbsence + o .need
 
 -- "The need of a policy question is the sum over the absences tried, up to and including the first that blocks, or all if none does."
-unfoldable pub weighed : Table → ℕ → ℕ → ℕ → List ℕ → Found
-weighed table P d t [] = record { blocked = false; blocker = 0; need = 0 }
-weighed table P d t (A ∷ rest) =
-    elim (filling table P d t A .found) [
+-- `fill` is what filling the crews comes to with an absence.
+unfoldable pub weighed : (ℕ → Outcome) → List ℕ → Found
+weighed fill [] = record { blocked = false; blocker = 0; need = 0 }
+weighed fill (A ∷ rest) =
+    elim (fill A .found) [
       | true ↦
-          (let more = weighed table P d t rest in
-          record { blocked = more .blocked; blocker = more .blocker; need = unitsOf (filling table P d t A) + more .need })
-      | false ↦ record { blocked = true; blocker = A; need = unitsOf (filling table P d t A) }
+          (let more = weighed fill rest in
+          record { blocked = more .blocked; blocker = more .blocker; need = unitsOf (fill A) + more .need })
+      | false ↦ record { blocked = true; blocker = A; need = unitsOf (fill A) }
     ]

@@ -1,16 +1,17 @@
--- The loop of `fill_on`, apart from its code: what is still to be tried is `rest`, and trying it at `units` gives what the whole search gives
--- at `spent`. Each way through a turn keeps that or ends with the answer. Assumes nothing.
-use mathlib.Core.Path.{_≡_, refl, sym, ap, ap₂, _∙_}
+-- `go_on` and the loop of `try_each`, apart from their code. A placement: nothing comes of one that fills a crew without covering, and from
+-- any other filling goes on. The loop: what is still to be tried is `rest`, and trying it at `units` gives what the whole search gives at
+-- `spent`; each way through a turn keeps that or ends with the answer. Assumes nothing.
+use mathlib.Core.Path.{_≡_, sym, ap, ap₂, _∙_}
 use mathlib.Core.Logic.{⊎-elim, _≢_}
-use mathlib.Core.Bool.{true}
+use mathlib.Core.Bool.{true, false}
 use mathlib.Core.List.{List, _∷_}
 use Prim.Native.Nat.{ℕ, suc, _+_, _-_, _*_, _%_, _^_, _≤_, _<_}
 use native.Mathlib.Omega.{arith}
 use lib.Bits.{bitAnd, bitXor}
 use lib.Count.{ones, trailingZeros}
 use lib.Dec.{eqb}
-use borrow.Author.Tests.{eqb-true, eqb-false, leb-true}
-use Rattle.sets.specs.Sets.{bit, Has, Sub, Least, bit-and, bit-le, trailing-least, shl-one}
+use borrow.Author.Tests.{eqb-true, eqb-false, leb-true, leb-false}
+use Rattle.sets.specs.Sets.{bit, Has, Sub, Least, bit-and, bit-le, ones-none, trailing-least, shl-one}
 use Rattle.sets.specs.Members.{members}
 use Rattle.sets.specs.Laws.Sums.{either}
 use Rattle.sets.specs.Laws.Drop.{drop-sub, drop-lt, ones-drop}
@@ -20,32 +21,98 @@ use Rattle.roster.specs.Replies.{noCrews}
 use Rattle.crews.specs.declared.Filling.{Filling}
 use Rattle.crews.specs.declared.Ending.the-variants.{Exhausted, Undecided}
 use Rattle.crews.specs.declared.Filled.{Filled}
-use Rattle.crews.specs.Filling.{Work, Outcome, missingOf, placeOf, closeOf, placedOf, wantedOf, tryEach, search, plainly}
+use Rattle.crews.specs.Filling.{Work, Outcome, missingOf, placeOf, closeOf, placedOf, wantedOf, tryEach, search, orderly}
 use Rattle.sets.specs.Arrays.{at}
-use Rattle.crews.specs.Filled.{filledOf, closedWhere, stuck, Ready}
+use Rattle.crews.specs.Filled.{filledOf}
+use Rattle.crews.specs.Inner.Placing.{closedWhere, stuck, eligibleOf, Ready, Placing}
 use Rattle.crews.specs.Laws.Search.{search-full}
 use Rattle.crews.specs.Laws.Steps as step
 
--- ---- the state after a placement
+-- ---- a placement
 
 module _ (f : Filling) (row holds : ℕ) where
   -- one row fewer is free
-  pub placed-falls : Has (f .free) row → suc (ones (placeOf f row holds .free)) ≡ ones (f .free)
+  placed-falls : Has (f .free) row → suc (ones (placeOf f row holds .free)) ≡ ones (f .free)
   unfolding placeOf
   placed-falls h = ones-drop (f .free) row h
 
-  -- closed or not, there is at most one crew more
-  closed-next : (task : ℕ) → closedWhere task (placeOf f row holds) .closed ≤ f .closed + 1
-  unfolding placeOf closeOf
-  closed-next task =
-      ⊎-elim
-      (λ e. let z = ap (λ (g : Filling). g .closed) (step.shut task (placeOf f row holds) (eqb-true _ 0 e)) in omega arith)
-      (λ e. let z = ap (λ (g : Filling). g .closed) (step.short task (placeOf f row holds) (eqb-false _ 0 e)) in omega arith)
-      (either (eqb (missingOf task (placeOf f row holds)) 0))
+  module _ (task : ℕ) where
+    abbrev settled : Filling
+    settled = closedWhere task (placeOf f row holds)
+
+    -- what holds of the crew closed, where it covers, and of the crew left open, where it does not, holds of either
+    settled-is : (Q : Filling → Type 0) → (missingOf task (placeOf f row holds) ≡ 0 → Q (closeOf (placeOf f row holds)))
+        → (missingOf task (placeOf f row holds) ≢ 0 → Q (placeOf f row holds)) → Q settled
+    settled-is Q shut open-still =
+        ⊎-elim
+        (λ e. let z = eqb-true _ 0 e in rw (step.shut task (placeOf f row holds) z) (shut z))
+        (λ e. let z = eqb-false _ 0 e in rw (step.short task (placeOf f row holds) z) (open-still z))
+        (either (eqb (missingOf task (placeOf f row holds)) 0))
+
+    -- closed or not, there is at most one crew more
+    closed-next : settled .closed ≤ f .closed + 1
+    unfolding placeOf closeOf
+    closed-next = settled-is (λ g. g .closed ≤ f .closed + 1) (λ z. omega arith) (λ z. omega arith)
+
+    -- a crew just begun has room, and so has one that is not full
+    room-next : (size : ℕ) → 0 < size → stuck task size (placeOf f row holds) ≡ false → ones (settled .crew) < size
+    unfolding placeOf closeOf
+    room-next size some k =
+        settled-is (λ g. ones (g .crew) < size) (λ z. omega (arith, ones-none))
+        (λ z. leb-false _ _ (sym (step.lacking task (placeOf f row holds) size z) ∙ k))
+
+module _ (holds holders : ℕ → ℕ) (task crews size : ℕ) (f : Filling) (row spent allowance : ℕ) (p : Placing crews size f row spent allowance) where
+  abbrev w : Work
+  w = orderly holds holders task crews size
+
+  -- what `go_on` answers
+  abbrev whole : Filled
+  whole = filledOf allowance spent (search (ones (f .free) - 1) w (placedOf w f row))
+
+  abbrev next : Filling
+  next = placeOf f row (holds row)
+
+  settled-next : placedOf w f row ≡ closedWhere task next
+  settled-next = step.placed-orderly holds holders task crews size f row
+
+  -- g is what the code has of the state after the placement
+  module _ {g : Filling} (eq : g ≡ next) where
+    -- a row fewer is free
+    pub free-falls : suc (ones (g .free)) ≡ ones (f .free)
+    free-falls = rw eq (placed-falls f row (holds row) (p .free))
+
+    -- the crew is full without covering: nothing deeper
+    pub stuck-here : stuck task size g ≡ true → record { ending = Exhausted; crews = noCrews; units = spent } ≡ whole
+    unfolding placeOf
+    stuck-here k =
+        let x = step.stuck-is task next size (ap (stuck task size) (sym eq) ∙ k) in
+        step.says-exhausted allowance spent (search (ones (f .free) - 1) w (placedOf w f row))
+        (ap (search (ones (f .free) - 1) w) (settled-next ∙ step.short task next (x .0))
+        ∙ search-full w next _ (λ e. omega (arith, p .going)) (leb-true _ _ (x .1)))
+        (p .within)
+
+    -- else each candidate can be tried from there
+    pub next-ready : stuck task size g ≡ false → Ready task crews size g spent allowance
+    next-ready k =
+        rw eq
+        (record {
+          few = p .few;
+          closed = omega (arith, p .going, closed-next f row (holds row) task);
+          room = λ n. room-next f row (holds row) task size (omega (arith, p .room)) (ap (stuck task size) (sym eq) ∙ k);
+          within = p .within;
+        })
+
+    -- and what comes of that is the answer
+    pub went-on : {r : Filled} → r ≡ filledOf allowance spent (search (ones (g .free)) w (closedWhere task g)) → r ≡ whole
+    went-on e =
+        let n : ones (next .free) ≡ ones (f .free) - 1 = omega (arith, placed-falls f row (holds row) (p .free)) in
+        e
+        ∙ ap (λ (x : Filling). filledOf allowance spent (search (ones (x .free)) w (closedWhere task x))) eq
+        ∙ ap (filledOf allowance spent) (ap₂ (λ (k : ℕ) (x : Filling). search k w x) n (sym settled-next))
 
 -- ---- the turns
 
--- what `fill_on` is called with, its state settled
+-- what `try_each` is called with, its state settled
 pub record Asked : Type 0 where
   pub holds : List ℕ
   pub holders : List ℕ
@@ -57,7 +124,7 @@ pub record Asked : Type 0 where
   pub allowance : ℕ
 
 abbrev pub rule : Asked → Work
-rule a = plainly (at (a .holds)) (at (a .holders)) (a .task) (a .crews) (a .size)
+rule a = orderly (at (a .holds)) (at (a .holders)) (a .task) (a .crews) (a .size)
 
 -- what it answers
 abbrev pub answer : Asked → Filled
@@ -72,9 +139,12 @@ settled-answer a placed e =
     ap (filledOf (a .allowance) (a .spent))
     (ap₂ (λ (n : ℕ) (f : Filling). search n (rule a) f) (ap ones (ap (λ (f : Filling). f .free) e ∙ step.closed-free (a .task) placed)) e)
 
--- the free rows that hold the permission wanted
+-- the free rows that hold the permission wanted, and those of them that may come next
+abbrev holding : Asked → ℕ
+holding a = bitAnd (at (a .holders) (wantedOf (a .task) (a .state))) (a .state .free)
+
 abbrev pub all : Asked → ℕ
-all a = bitAnd (at (a .holders) (wantedOf (a .task) (a .state))) (a .state .free)
+all a = eligibleOf (a .state) (holding a)
 
 -- the search one placement deeper, and each of the rows tried by it
 abbrev deeper : Asked → Filling → Outcome
@@ -90,26 +160,37 @@ outcome a units row = filledOf (a .allowance) (units + 1) (deeper a (placedOf (r
 pub record Going (a : Asked) (rest units : ℕ) : Type 0 where
   pub few : a .crews ≤ crewLimit
   pub unfinished : a .state .closed < a .crews
+  pub room : ones (a .state .crew) < a .size
   pub wide : rest < 2 ^ 64
   pub own : Sub rest (a .state .free)
   pub within : units ≤ a .allowance
   pub same : answer a ≡ filledOf (a .allowance) units (trying a (members 0 64 rest))
 
 pub begun : (a : Asked) (placed : Filling) {rest : ℕ} → a .state ≡ closedWhere (a .task) placed
-    → Ready (a .task) (a .crews) placed (a .spent) (a .allowance) → rest ≡ all a → rest < 2 ^ 64 → a .state .closed ≢ a .crews
-    → ones (a .state .crew) < rule a .size → Going a rest (a .spent)
-begun a placed es r e w n h =
+    → Ready (a .task) (a .crews) (a .size) placed (a .spent) (a .allowance) → rest ≡ all a → rest < 2 ^ 64 → a .state .closed ≢ a .crews
+    → Going a rest (a .spent)
+begun a placed es r e w n =
     record {
       few = r .few;
       unfinished = omega (arith, ap (λ (f : Filling). f .closed) es, r .closed, n);
+      room = room;
       wide = w;
-      own = λ i. omega (arith, ap (λ (x : ℕ). bit x i) e, bit-and (at (a .holders) (wantedOf (a .task) (a .state))) (a .state .free) i);
+      own = λ i.
+          omega (
+            arith,
+            ap (λ (x : ℕ). bit x i) e,
+            step.eligible-in (a .state) (holding a) i,
+            bit-and (at (a .holders) (wantedOf (a .task) (a .state))) (a .state .free) i,
+          );
       within = r .within;
       same =
           ap (filledOf (a .allowance) (a .spent))
-          (step.search-tries (at (a .holds)) (at (a .holders)) (a .task) (a .crews) (a .size) (a .state) n h
+          (step.search-tries (at (a .holds)) (at (a .holders)) (a .task) (a .crews) (a .size) (a .state) n room
           ∙ ap (λ (x : ℕ). trying a (members 0 64 x)) (sym e));
     }
+  where
+    room : ones (a .state .crew) < a .size
+    room = rw es (r .room (λ z. n (ap (λ (f : Filling). f .closed) es ∙ z)))
 
 module _ {a : Asked} {rest units : ℕ} (g : Going a rest units) where
   pub ended : rest ≡ 0 → record { ending = Exhausted; crews = noCrews; units = units } ≡ answer a
@@ -128,6 +209,9 @@ module _ {a : Asked} {rest units : ℕ} (g : Going a rest units) where
 
     pub row-free : Has (a .state .free) row
     row-free = omega (arith, g .own row, least .has, bit-le (a .state .free) row)
+
+    pub some-free : 0 < ones (a .state .free)
+    some-free = omega (arith, ones-drop (a .state .free) row row-free)
 
     -- what the code takes out of the set
     abbrev bitOf : ℕ
@@ -164,49 +248,21 @@ module _ {a : Asked} {rest units : ℕ} (g : Going a rest units) where
           (record {
             few = g .few;
             unfinished = g .unfinished;
+            room = g .room;
             wide = drop-lt 64 rest row (g .wide) (least .has);
             own = λ i. omega (arith, drop-sub rest row (least .has) i, g .own i);
             within = t .1;
             same = first ∙ t .0;
           })
 
-    -- the state after the placement
-    abbrev next : Filling
-    next = placeOf (a .state) row (at (a .holds) row)
-
-    settled-next : placedOf (rule a) (a .state) row ≡ closedWhere (a .task) next
-    settled-next = step.placed-plainly (at (a .holds)) (at (a .holders)) (a .task) (a .crews) (a .size) (a .state) row
-
-    -- q is what the code has of that state
-    module _ {q : Filling} (eq : q ≡ next) where
-      -- it can be gone on from
-      pub next-ready : units < a .allowance → Ready (a .task) (a .crews) q (units + 1) (a .allowance)
-      next-ready l =
-          rw eq
-          (record {
-            few = g .few;
-            closed = omega (arith, g .unfinished, closed-next (a .state) row (at (a .holds) row) (a .task));
-            within = omega arith;
-          })
-
-      -- a row fewer is free
-      pub next-falls : ones (q .free) < ones (a .state .free)
-      next-falls = omega (arith, ap (λ (x : Filling). ones (x .free)) eq, placed-falls (a .state) row (at (a .holds) row) row-free)
-
-      -- a call says it
-      pub called : {r : Filled} → r ≡ promised a (units + 1) q → r ≡ outcome a units row
-      called e =
-          let n : ones (next .free) ≡ ones (a .state .free) - 1 = omega (arith, placed-falls (a .state) row (at (a .holds) row) row-free) in
-          e
-          ∙ ap (promised a (units + 1)) eq
-          ∙ ap (filledOf (a .allowance) (units + 1)) (ap₂ (λ (k : ℕ) (x : Filling). search k (rule a) x) n (sym settled-next))
-
-      -- the crew is full without covering: a unit, and nothing deeper
-      pub stuck-here : stuck (a .task) (a .size) q ≡ true → units < a .allowance → Going a (bitXor rest bitOf) (units + 1)
-      unfolding placeOf
-      stuck-here k l =
-          let x = step.stuck-is (a .task) next (a .size) (ap (stuck (a .task) (a .size)) (sym eq) ∙ k) in
-          exhausted-here
-          (step.says-exhausted (a .allowance) (units + 1) (deeper a (placedOf (rule a) (a .state) row))
-          (ap (deeper a) (settled-next ∙ step.short (a .task) next (x .0)) ∙ search-full (rule a) next _ (λ e. omega (arith, g .unfinished)) (leb-true _ _ (x .1))) (omega arith))
-          refl
+    -- it can be placed
+    pub placing : units < a .allowance → Placing (a .crews) (a .size) (a .state) row (units + 1) (a .allowance)
+    placing l =
+        record {
+          few = g .few;
+          going = g .unfinished;
+          room = g .room;
+          below = row-below;
+          free = row-free;
+          within = omega arith;
+        }

@@ -55,7 +55,7 @@ cases =
     -- candidates in ascending order, each time all of them: not the later or the stronger first, nor only those not tried yet, nor one of
     -- two equal ones; the row past the count would do
     ∷ filled (tableWith 7 (16 ∷ 18 ∷ 22 ∷ 6 ∷ 20 ∷ 6 ∷ 6 ∷ 22 ∷ [])) 22 (4 ∷ 5 ∷ []) 3 2
-    gives crews ((1 ∷ 3 ∷ []) ∷ (2 ∷ []) ∷ (0 ∷ 6 ∷ []) ∷ []) 12
+    gives crews ((1 ∷ 3 ∷ []) ∷ (2 ∷ []) ∷ (0 ∷ 6 ∷ []) ∷ []) 11
     ∷ filled (tableOf (10 ∷ 0 ∷ 9 ∷ 2 ∷ 11 ∷ 3 ∷ 0 ∷ [])) 11 [] 3 2 gives crews ((2 ∷ 3 ∷ []) ∷ (4 ∷ []) ∷ (0 ∷ 5 ∷ []) ∷ []) 10
     ∷ filled (tableOf (6 ∷ 1 ∷ 6 ∷ 0 ∷ 5 ∷ 14 ∷ 13 ∷ 5 ∷ [])) 15 [] 2 2 gives crews ((1 ∷ 5 ∷ []) ∷ (0 ∷ 6 ∷ []) ∷ []) 9
     -- a crew is closed as soon as it covers and no sooner, with at most t rows, and keeps a row that it could do without
@@ -65,13 +65,13 @@ cases =
     ∷ filled (tableOf (12 ∷ 10 ∷ 4 ∷ 11 ∷ 13 ∷ 9 ∷ 7 ∷ 2 ∷ [])) 15 (0 ∷ 5 ∷ []) 3 3
     gives crews ((2 ∷ 3 ∷ []) ∷ (4 ∷ 7 ∷ []) ∷ (1 ∷ 6 ∷ []) ∷ []) 9
     ∷ filled (tableWith 5 (5 ∷ 21 ∷ 1 ∷ 21 ∷ 16 ∷ 21 ∷ [])) 21 (2 ∷ []) 3 2 gives crews ((0 ∷ 4 ∷ []) ∷ (1 ∷ []) ∷ (3 ∷ []) ∷ []) 8
-    ∷ filled (tableOf (4 ∷ 36 ∷ 12 ∷ 36 ∷ 56 ∷ 40 ∷ [])) 44 [] 3 64 gives crews ((0 ∷ 4 ∷ []) ∷ (1 ∷ 2 ∷ []) ∷ (3 ∷ 5 ∷ []) ∷ []) 29
+    ∷ filled (tableOf (4 ∷ 36 ∷ 12 ∷ 36 ∷ 56 ∷ 40 ∷ [])) 44 [] 3 64 gives crews ((0 ∷ 4 ∷ []) ∷ (1 ∷ 2 ∷ []) ∷ (3 ∷ 5 ∷ []) ∷ []) 27
     -- all exhausted, with fewer rows than crews to fill
-    ∷ filled (tableOf (26 ∷ 2 ∷ 64 ∷ 88 ∷ [])) 26 [] 4 2 gives none 7
-    ∷ filled (tableOf (5 ∷ 13 ∷ 1 ∷ 127 ∷ [])) 13 (2 ∷ []) 4 1 gives none 9
-    -- eight crews, with row 0 tried for each of them; the last permissions that there are
+    ∷ filled (tableOf (26 ∷ 2 ∷ 64 ∷ 88 ∷ [])) 26 [] 4 2 gives none 6
+    ∷ filled (tableOf (5 ∷ 13 ∷ 1 ∷ 127 ∷ [])) 13 (2 ∷ []) 4 1 gives none 4
+    -- eight crews, with row 0 tried for the first of them only; the last permissions that there are
     ∷ filled (tableOf (1 ∷ 3 ∷ 3 ∷ 0 ∷ 3 ∷ 3 ∷ 2 ∷ 3 ∷ 3 ∷ 3 ∷ 3 ∷ [])) 3 [] 8 1
-    gives crews ((1 ∷ []) ∷ (2 ∷ []) ∷ (4 ∷ []) ∷ (5 ∷ []) ∷ (7 ∷ []) ∷ (8 ∷ []) ∷ (9 ∷ []) ∷ (10 ∷ []) ∷ []) 16
+    gives crews ((1 ∷ []) ∷ (2 ∷ []) ∷ (4 ∷ []) ∷ (5 ∷ []) ∷ (7 ∷ []) ∷ (8 ∷ []) ∷ (9 ∷ []) ∷ (10 ∷ []) ∷ []) 9
     ∷ filled (tableOf (2 ^ 31 ∷ 0 ∷ 2 ^ 30 ∷ [])) (3 * 2 ^ 30) [] 1 64 gives crews ((0 ∷ 2 ∷ []) ∷ []) 2
     ∷ []
 

@@ -16,7 +16,7 @@ use Rattle.roster.specs.Replies.{noCrews}
 use Rattle.crews.specs.declared.Filling.{Filling}
 
 -- What the crews are filled from and for: each row's holdings, for each permission the rows that hold it, the task P, d and t. The last
--- two are what later editions of the rule change: which rows may begin a crew, and whether a crew that covers may close.
+-- two are what requests change: which rows may begin a crew, and whether a crew that covers may close.
 pub record Work : Type 0 where
   pub holds : ℕ → ℕ
   pub holders : ℕ → ℕ
@@ -46,7 +46,8 @@ after n o = record { found = o .found; crews = o .crews; need = n + o .need }
 abbrev pub missingOf : ℕ → Filling → ℕ
 missingOf task f = bitXor task (bitAnd task (f .held))
 
--- "The half-filled crews are one value, and each placement hands a new one back."
+-- "The half-filled crews are one value, and each placement hands a new one back." The first row of a crew says from which row on the next
+-- crew may begin.
 unfoldable pub placeOf : Filling → ℕ → ℕ → Filling
 placeOf f row h =
     record {
@@ -55,11 +56,12 @@ placeOf f row h =
       crew = bitOr (f .crew) (2 ^ row);
       free = bitXor (f .free) (2 ^ row);
       held = bitOr (f .held) h;
+      from = elim (eqb (f .crew) 0) [ true ↦ row + 1 | false ↦ f .from ];
     }
 
 unfoldable pub closeOf : Filling → Filling
 closeOf f =
-    record { crews = set (f .crews) (f .closed) (f .crew); closed = f .closed + 1; crew = 0; free = f .free; held = 0 }
+    record { crews = set (f .crews) (f .closed) (f .crew); closed = f .closed + 1; crew = 0; free = f .free; held = 0; from = f .from }
 
 -- "A crew that covers P is closed and the next begun."
 unfoldable pub placedOf : Work → Filling → ℕ → Filling
@@ -107,13 +109,13 @@ search (suc n) w f =
 
 -- nothing is placed, and these rows are free
 abbrev pub begin : ℕ → Filling
-begin free = record { crews = noCrews; closed = 0; crew = 0; free = free; held = 0 }
+begin free = record { crews = noCrews; closed = 0; crew = 0; free = free; held = 0; from = 0 }
 
 -- the whole search from these free rows
 abbrev pub searchFrom : Work → ℕ → Outcome
 searchFrom w free = search (ones free) w (begin free)
 
--- ---- the rule of 01, over a table
+-- ---- the rule, over a table
 
 -- a row's holdings within P; a row past the count holds nothing
 abbrev pub holdsOf : Table → ℕ → ℕ → ℕ
@@ -123,7 +125,32 @@ holdsOf table P u = elim (leb (table .rows) u) [ true ↦ 0 | false ↦ held tab
 abbrev pub holdersOf : (ℕ → ℕ) → ℕ → ℕ
 holdersOf holds p = setOf rowLimit (λ u. hasb (holds u) p)
 
--- any row may begin a crew, and a crew that covers closes
+-- "The first row placed in a crew must now have a higher row number than the first row of the crew before", and a crew that covers closes.
+abbrev pub orderly : (ℕ → ℕ) → (ℕ → ℕ) → ℕ → ℕ → ℕ → Work
+orderly holds holders P d t = record {
+  holds = holds;
+  holders = holders;
+  task = P;
+  crews = d;
+  size = t;
+  begins = λ f u. leb (f .from) u;
+  closes = λ f. true;
+}
+
+abbrev pub workOf : Table → ℕ → ℕ → ℕ → Work
+workOf table P d t = orderly (holdsOf table P) (holdersOf (holdsOf table P)) P d t
+
+-- the rows that are not absent
+abbrev pub present : Table → ℕ → ℕ
+present table A = minus rowLimit (2 ^ table .rows - 1) A
+
+-- what filling the crews comes to with A absent
+abbrev pub filling : Table → ℕ → ℕ → ℕ → ℕ → Outcome
+filling table P d t A = searchFrom (workOf table P d t) (present table A)
+
+-- ---- the rule before, kept as the reference
+
+-- any row may begin a crew
 abbrev pub plainly : (ℕ → ℕ) → (ℕ → ℕ) → ℕ → ℕ → ℕ → Work
 plainly holds holders P d t = record {
   holds = holds;
@@ -135,13 +162,8 @@ plainly holds holders P d t = record {
   closes = λ f. true;
 }
 
-abbrev pub workOf : Table → ℕ → ℕ → ℕ → Work
-workOf table P d t = plainly (holdsOf table P) (holdersOf (holdsOf table P)) P d t
+abbrev pub workBefore : Table → ℕ → ℕ → ℕ → Work
+workBefore table P d t = plainly (holdsOf table P) (holdersOf (holdsOf table P)) P d t
 
--- the rows that are not absent
-abbrev pub present : Table → ℕ → ℕ
-present table A = minus rowLimit (2 ^ table .rows - 1) A
-
--- what filling the crews comes to with A absent
-abbrev pub filling : Table → ℕ → ℕ → ℕ → ℕ → Outcome
-filling table P d t A = searchFrom (workOf table P d t) (present table A)
+abbrev pub fillingBefore : Table → ℕ → ℕ → ℕ → ℕ → Outcome
+fillingBefore table P d t A = searchFrom (workBefore table P d t) (present table A)

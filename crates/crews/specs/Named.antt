@@ -1,16 +1,20 @@
 -- The question for one named absence: what it is allowed to reply. Nothing here is proved: these are definitions.
 use mathlib.Core.Path.{_≡_}
+use mathlib.Core.Bool.{true, false}
 use mathlib.Core.List.{List}
 use Prim.Native.Nat.{ℕ, _≤_, _<_}
+use lib.Dec.{leb}
 use Rattle.roster.specs.declared.Table.{Table}
 use Rattle.roster.specs.declared.Refusal.{Refusal}
+use Rattle.roster.specs.declared.Ruling.{Ruling}
 use Rattle.roster.specs.declared.Ruling.the-variants as ruling
+use Rattle.roster.specs.declared.Verdict.{Verdict}
 use Rattle.roster.specs.declared.Verdict.the-variants.{Undecided, Crews, None, Refused}
 use Rattle.roster.specs.declared.Reply.{Reply}
 use Rattle.roster.specs.Meaning.{CrewList, Blocks}
 use Rattle.roster.specs.Refusals.{namedRuling}
 use Rattle.roster.specs.Replies.{noCrews, replyWith}
-use Rattle.crews.specs.Filling.{filling}
+use Rattle.crews.specs.Filling.{Outcome, filling, fillingBefore}
 
 -- "The need of a named-absence question is its placements alone."
 abbrev pub needNamed : Table → ℕ → ℕ → ℕ → ℕ → ℕ
@@ -20,14 +24,39 @@ needNamed table P d t A = filling table P d t A .need
 abbrev pub firstList : Table → ℕ → ℕ → ℕ → ℕ → List ℕ
 firstList table P d t A = filling table P d t A .crews
 
--- what may come back, a field for each row of the table "What comes back"
-pub record NamedReply (table : Table) (P d t A allowance : ℕ) (r : Reply) : Type 0 where
+-- what may come back where filling comes to o, a field for each row of the table "What comes back"
+pub record NamedReplyBy (o : Outcome) (table : Table) (P d t A allowance : ℕ) (r : Reply) : Type 0 where
   pub refused : (refusal : Refusal) → namedRuling (table .rows) P d t A ≡ ruling.Refused refusal
       → r ≡ replyWith noCrews 0 0 allowance (Refused refusal)
-  pub undecided : namedRuling (table .rows) P d t A ≡ ruling.Admitted → allowance < needNamed table P d t A
-      → r ≡ replyWith noCrews 0 (needNamed table P d t A) allowance Undecided
-  pub crews : namedRuling (table .rows) P d t A ≡ ruling.Admitted → needNamed table P d t A ≤ allowance
+  pub undecided : namedRuling (table .rows) P d t A ≡ ruling.Admitted → allowance < o .need
+      → r ≡ replyWith noCrews 0 (o .need) allowance Undecided
+  pub crews : namedRuling (table .rows) P d t A ≡ ruling.Admitted → o .need ≤ allowance
       → (list : List ℕ) → CrewList table P d t A list
-      → r ≡ replyWith (firstList table P d t A) 0 (needNamed table P d t A) allowance Crews
-  pub none : namedRuling (table .rows) P d t A ≡ ruling.Admitted → needNamed table P d t A ≤ allowance → Blocks table P d t A
-      → r ≡ replyWith noCrews 0 (needNamed table P d t A) allowance None
+      → r ≡ replyWith (o .crews) 0 (o .need) allowance Crews
+  pub none : namedRuling (table .rows) P d t A ≡ ruling.Admitted → o .need ≤ allowance → Blocks table P d t A
+      → r ≡ replyWith noCrews 0 (o .need) allowance None
+
+abbrev pub NamedReply : Table → ℕ → ℕ → ℕ → ℕ → ℕ → Reply → Type 0
+NamedReply table P d t A allowance r = NamedReplyBy (filling table P d t A) table P d t A allowance r
+
+-- the same under the rule before
+abbrev pub NamedReplyBefore : Table → ℕ → ℕ → ℕ → ℕ → ℕ → Reply → Type 0
+NamedReplyBefore table P d t A allowance r = NamedReplyBy (fillingBefore table P d t A) table P d t A allowance r
+
+-- ---- the reply that is allowed, as one that runs
+
+-- the verdict by the allowance and by what filling found
+abbrev pub verdictBy : ℕ → Outcome → Verdict
+verdictBy allowance o =
+    elim (leb (o .need) allowance) [
+      | true ↦ elim (o .found) [ true ↦ Crews | false ↦ None ]
+      | false ↦ Undecided
+    ]
+
+-- the reply by the ruling too
+abbrev pub replyBy : ℕ → Outcome → Ruling → Reply
+replyBy allowance o ruling.Admitted = replyWith (o .crews) 0 (o .need) allowance (verdictBy allowance o)
+replyBy allowance o (ruling.Refused refusal) = replyWith noCrews 0 0 allowance (Refused refusal)
+
+abbrev pub namedReplyOf : Table → ℕ → ℕ → ℕ → ℕ → ℕ → Reply
+namedReplyOf table P d t A allowance = replyBy allowance (filling table P d t A) (namedRuling (table .rows) P d t A)

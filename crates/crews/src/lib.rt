@@ -6,25 +6,29 @@ use roster::Reply;
 use roster::Ruling;
 use roster::Table;
 ghost use mathlib.Core.Path.{_≡_};
-ghost use Prim.Native.Nat.{_≤_, _<_};
+ghost use Prim.Native.Nat.{_-_, _≤_, _<_};
 ghost use lib.Bits.{bitAnd, bitXor};
 ghost use lib.Count.{ones};
 ghost use Rattle.roster.specs.Limits.{rowLimit, crewLimit};
-ghost use Rattle.crews.specs.Filling.{placeOf, closeOf, wantedOf, begin, search, plainly, holdsOf, holdersOf};
+ghost use Rattle.crews.specs.Filling.{placeOf, closeOf, placedOf, wantedOf, begin, search, orderly, holdsOf, holdersOf};
 ghost use Rattle.sets.specs.Arrays.{tabulate, at};
-ghost use Rattle.crews.specs.Filled.{filledWith, filledOf, closedWhere, stuck, foundFrom, repliedOf, Ready};
+ghost use Rattle.crews.specs.Filled.{filledWith, filledOf, foundFrom};
+ghost use Rattle.crews.specs.Inner.Placing.{closedWhere, stuck, eligibleOf, Ready, Placing};
+ghost use Rattle.crews.specs.Inner.Replied.{repliedOf};
 ghost use Rattle.roster.specs.Replies.{noCrews};
 ghost use Rattle.crews.specs.declared.Ending.the-variants.{Complete};
 ghost use Rattle.crews.specs.Named.{NamedReply};
 
-// The half-filled crews: those closed, the one being filled, the rows neither absent nor placed, and what the crew being filled holds. That
-// one is a field of its own because it changes with each row: written into the array, the copy of the array that follows would wait for it.
+// The half-filled crews: those closed, the one being filled, the rows neither absent nor placed, what the crew being filled holds, and the
+// lowest row that may begin the next crew. The crew being filled is a field of its own because it changes with each row: written into the
+// array, the copy of the array that follows would wait for it.
 struct Filling {
     crews: [u64; Policy::CREWS],
     closed: usize,
     crew: u64,
     free: u64,
     held: u32,
+    from: usize,
 }
 
 // How filling ends: with a complete list, with all lists exhausted, or because one more unit than the allowance was wanted.
@@ -54,6 +58,7 @@ impl Filling {
             crew: 0,
             free: free,
             held: 0,
+            from: 0,
         }
     }
 
@@ -63,12 +68,14 @@ impl Filling {
         ensures { λ r. ⌜ r ≡ placeOf self row holds ⌝ }
     {
         let crews = self.crews;
+        let from = if self.crew == 0 { row + 1 } else { self.from };
         Filling {
             crews: crews,
             closed: self.closed,
             crew: self.crew | (1u64 << row),
             free: self.free ^ (1u64 << row),
             held: self.held | holds,
+            from: from,
         }
     }
 
@@ -86,6 +93,7 @@ impl Filling {
             crew: 0,
             free: self.free,
             held: 0,
+            from: self.from,
         }
     }
 
@@ -106,6 +114,16 @@ impl Filling {
         ensures { λ r. ⌜ r ≡ wantedOf task self ⌝ }
     {
         sets::lowest(missing(task, self.held))
+    }
+
+    // Of these rows those that may come next in the crew being filled: a crew begins above the first row of the crew before.
+    fn eligible(self, rows: u64) -> u64
+        ensures { λ r. ⌜ r ≡ eligibleOf self rows ⌝ }
+    {
+        if self.crew == 0 {
+            return rows & !sets::below(self.from);
+        }
+        rows
     }
 
     // Whether the crew being filled is full without covering: nothing further fits.
@@ -162,9 +180,31 @@ fn candidates(holders: &[u64], wanted: u32, free: u64) -> u64
     holders[permission] & free
 }
 
-// How filling goes on from a placement just made, where `spent` units are spent already. The crew is closed here and not where the row was
-// placed, so that no copy of the crews follows at once on the write into them.
-fn fill_on(
+// One placement: the row in the crew being filled, and filling goes on from there. `spent` has the placement's unit already.
+fn go_on(
+    holds: &[u32; Policy::ROWS],
+    holders: &[u64; 32],
+    task: u32,
+    crews: usize,
+    size: u32,
+    before: Filling,
+    row: usize,
+    spent: u32,
+    allowance: u32,
+) -> Filled
+    requires { ⌜ Placing crews size before row spent allowance ⌝ }
+    ensures { λ r. ⌜ r ≡ filledOf allowance spent (search (ones (before .free) - 1) (orderly (at (now (holds .entry))) (at (now (holders .entry))) task crews size) (placedOf (orderly (at (now (holds .entry))) (at (now (holders .entry))) task crews size) before row)) ⌝ }
+{
+    let placed = before.place(row, holds[row]);
+    if placed.stuck(task, size) {
+        return Filled::without_crews(Ending::Exhausted, spent);
+    }
+    try_each(holds, holders, task, crews, size, placed, spent, allowance)
+}
+
+// Each candidate in turn, from the state just placed. The crew is closed here and not where the row was placed, so that no copy of the crews
+// follows at once on the write into them.
+fn try_each(
     holds: &[u32; Policy::ROWS],
     holders: &[u64; 32],
     task: u32,
@@ -174,17 +214,14 @@ fn fill_on(
     spent: u32,
     allowance: u32,
 ) -> Filled
-    requires { ⌜ Ready task crews placed spent allowance ⌝ }
-    ensures { λ r. ⌜ r ≡ filledOf allowance spent (search (ones (placed .free)) (plainly (at (now (holds .entry))) (at (now (holders .entry))) task crews size) (closedWhere task placed)) ⌝ }
+    requires { ⌜ Ready task crews size placed spent allowance ⌝ }
+    ensures { λ r. ⌜ r ≡ filledOf allowance spent (search (ones (placed .free)) (orderly (at (now (holds .entry))) (at (now (holders .entry))) task crews size) (closedWhere task placed)) ⌝ }
 {
     let f = placed.settled(task);
     if f.closed == crews {
         return f.complete(spent);
     }
-    if sets::size(f.crew) >= size {
-        return Filled::without_crews(Ending::Exhausted, spent);
-    }
-    let mut rest = candidates(holders, f.wanted(task), f.free);
+    let mut rest = f.eligible(candidates(holders, f.wanted(task), f.free));
     let mut units = spent;
     while rest != 0 {
         if units >= allowance {
@@ -192,17 +229,22 @@ fn fill_on(
         }
         let row = sets::least(rest) as usize;
         rest = rest ^ (1u64 << row);
-        let g = f.place(row, holds[row]);
-        if g.stuck(task, size) {
-            units += 1;
-        } else {
-            let filled = fill_on(holds, holders, task, crews, size, g, units + 1, allowance);
-            let ending = filled.ending;
-            let Ending::Exhausted = ending else {
-                return filled;
-            };
-            units = filled.units;
-        }
+        let filled = go_on(
+            holds,
+            holders,
+            task,
+            crews,
+            size,
+            f,
+            row,
+            units + 1,
+            allowance,
+        );
+        let ending = filled.ending;
+        let Ending::Exhausted = ending else {
+            return filled;
+        };
+        units = filled.units;
     }
     Filled::without_crews(Ending::Exhausted, units)
 }
@@ -219,7 +261,7 @@ pub fn fill(
     spent: u32,
     allowance: u32,
 ) -> Filled
-    ensures { λ r. ⌜ r ≡ filledOf allowance spent (foundFrom (plainly (at (now (holds .entry))) (at (now (holders .entry))) task crews size) free) ⌝ }
+    ensures { λ r. ⌜ r ≡ filledOf allowance spent (foundFrom (orderly (at (now (holds .entry))) (at (now (holders .entry))) task crews size) free) ⌝ }
     ensures kept { λ _. ⌜ (now (holds .exit) ≡ now (holds .entry)) × (now (holders .exit) ≡ now (holders .entry)) ⌝ }
 {
     if spent > allowance {
@@ -231,7 +273,12 @@ pub fn fill(
     if crews > Policy::CREWS {
         return Filled::without_crews(Ending::Exhausted, spent);
     }
-    fill_on(
+    if size == 0 {
+        if crews != 0 {
+            return Filled::without_crews(Ending::Exhausted, spent);
+        }
+    }
+    try_each(
         holds,
         holders,
         task,

@@ -31,7 +31,7 @@ use Rattle.lines.specs.Lines.{verdictWord, names, filled, setsText, line
 use Rattle.lines.specs.Sheet.{staffOf, replyTo, lineBy, linesFrom, sheetBy, sheetOf}
 
 -- "Output, whole"
-pub sheet-b : sheetOf bookB ≡ quoted "0 yes 8 101/102,103\n1 no 11 101,104\n2 no 10 -\n"
+pub sheet-b : sheetOf bookB ≡ quoted "0 yes 8 101/102,103\n1 no 11 101,104\n2 no 6 -\n"
 unfolding bit sumTo toN cons? members filter hasb setOf ones onesIn trailingZeros policyRuling ahead rank outweighsb placeOf closeOf placedOf candidates tryEach search rowFrom joins listed sizesFrom weighed policyReplyOf number fieldsAt countLook entryLook inTurn sectionLooks past firstFault readOf startsIn Parts·placeOf tabulate tableOf policyCount policyAt decimalIn decimal marked joined verdictWord names filled setsText lineOf badLine staffOf replyTo lineBy linesFrom sheetBy sheetOf
 sheet-b = refl
 

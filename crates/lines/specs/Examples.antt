@@ -25,7 +25,7 @@ pub line-examples :
     ≡ quoted "31 yes 1000000 1000/1001/1002/1003/1004/1005/1006/1007\n")
     -- a blocker, an empty one, and everyone
     × (lineOf people 10 (replyWith noCrews (2 ^ 62 + 2 ^ 63) 101 allowance No) ≡ quoted "10 no 101 1062,1063\n")
-    × (lineOf people 2 (replyWith noCrews 0 10 allowance No) ≡ quoted "2 no 10 -\n")
+    × (lineOf people 2 (replyWith noCrews 0 6 allowance No) ≡ quoted "2 no 6 -\n")
     × (lineOf people 0 (replyWith noCrews (2 ^ 64 - 1) 5 allowance No) ≡ quoted "0 no 5 " ++ joined comma (map decimal people) ++ quoted "\n")
     -- "undecided" has spent the allowance
     × (lineOf people 3 (replyWith noCrews 0 0 allowance Undecided) ≡ quoted "3 undecided 1000000 -\n")

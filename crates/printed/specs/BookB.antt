@@ -7,6 +7,6 @@ use Rattle.text.specs.Cut.{longer, linesOf}
 use Rattle.lines.specs.Sheet.{sheetOf}
 use Rattle.lines.specs.BookB.{sheet-b}
 
-pub lines-b : linesOf (sheetOf bookB) ≡ quoted "0 yes 8 101/102,103" ∷ quoted "1 no 11 101,104" ∷ quoted "2 no 10 -" ∷ []
+pub lines-b : linesOf (sheetOf bookB) ≡ quoted "0 yes 8 101/102,103" ∷ quoted "1 no 11 101,104" ∷ quoted "2 no 6 -" ∷ []
 unfolding linesOf longer
 lines-b = ap linesOf sheet-b

@@ -26,7 +26,11 @@ pub const ALLOWANCE: usize = 7;
 
 pub const FILLING: usize = 8;
 
-pub const KINDS: usize = 9;
+pub const LIST: usize = 9;
+
+pub const PLACEMENTS: usize = 10;
+
+pub const KINDS: usize = 11;
 
 // The kinds of verdict.
 pub const VERDICTS: usize = 6;
@@ -240,4 +244,13 @@ pub(crate) fn filling(counts: Counts, question: Question, wanted: Wanted, found:
     counts
         .noted(FILLING, verdict == wanted.verdict)
         .told(counts, question, wanted, wanted.but(verdict))
+}
+
+// The reply for an absence, held against that of the rule before: the same list, with no more placements.
+pub(crate) fn before(counts: Counts, question: Question, wanted: Wanted, reply: Reply) -> Counts {
+    let came = told(reply);
+    counts
+        .noted(LIST, same_answer(came, wanted))
+        .noted(PLACEMENTS, came.units <= wanted.units)
+        .told(counts, question, wanted, came)
 }

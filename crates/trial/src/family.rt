@@ -124,7 +124,7 @@ fn try_named(counts: Counts, question: Question, wanted: Wanted) -> Counts {
     try_within(exact, question, wanted, need - 1)
 }
 
-// The absence with this number: filling held against trying everything, and the question for it.
+// The absence with this number: filling held against trying everything, the question for it, and its reply held against the rule before.
 fn try_absence(counts: Counts, known: Known, duty: Duty, asked: Asked, number: usize) -> Counts {
     let absent = known::mask_of(known::set_of(number));
     let wanted = known::named_reply(known, duty, number);
@@ -134,10 +134,12 @@ fn try_absence(counts: Counts, known: Known, duty: Duty, asked: Asked, number: u
         wanted,
         known.fact(number).found,
     );
-    try_named(
-        filled,
-        question::named(asked, question::NAMED, absent),
-        wanted,
+    let question = question::named(asked, question::NAMED, absent);
+    compare::before(
+        try_named(filled, question, wanted),
+        question::named(asked, question::BEFORE, absent),
+        known::unordered_reply(known, duty, number),
+        question.reply(),
     )
 }
 

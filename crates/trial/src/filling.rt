@@ -45,9 +45,9 @@ impl Duty {
         false
     }
 
-    // The first candidate from row `from` on: it holds the lowest permission missing, is not absent and in no crew. Past the last row where
-    // there is none, or where the crew has as many rows as it may.
-    fn candidate(self, absent: [bool; ROWS], placed: Placed, from: usize) -> usize {
+    // The first candidate from row `from` on: it holds the lowest permission missing, is not absent and in no crew, and keeps crews in order
+    // where they are to be. Past the last row where there is none, or where the crew has as many rows as it may.
+    fn candidate(self, ordered: bool, absent: [bool; ROWS], placed: Placed, from: usize) -> usize {
         if placed.members(placed.closed) >= self.size {
             return ROWS;
         }
@@ -58,6 +58,7 @@ impl Duty {
                 && !absent[row]
                 && !placed.has(row)
                 && self.has(row, p)
+                && (!ordered || placed.in_order(row))
             {
                 return row;
             }
@@ -74,9 +75,19 @@ impl Duty {
         grown.with_closed(after(grown.closed))
     }
 
+    // Fills the crews by the rule.
+    pub(crate) fn fill(self, absent: [bool; ROWS]) -> Filled {
+        self.fill_by(true, absent)
+    }
+
+    // Fills the crews by the rule before, under which any row began a crew.
+    pub(crate) fn fill_unordered(self, absent: [bool; ROWS]) -> Filled {
+        self.fill_by(false, absent)
+    }
+
     // Fills the crews one after the other: the first candidate is placed and the next sought from the front, or, where there is none, the
     // last placement is taken back and the next sought behind it.
-    pub(crate) fn fill(self, absent: [bool; ROWS]) -> Filled {
+    fn fill_by(self, ordered: bool, absent: [bool; ROWS]) -> Filled {
         let mut placed = Placed::none();
         let mut from: usize = 0;
         let mut units: u32 = 0;
@@ -84,7 +95,7 @@ impl Duty {
             if placed.closed == self.crews {
                 return ended(true, placed, units);
             }
-            let row = self.candidate(absent, placed, from);
+            let row = self.candidate(ordered, absent, placed, from);
             if row < ROWS {
                 placed = self.place(placed, row);
                 units = std::num::wrapping_add_u32(units, 1);
@@ -150,6 +161,28 @@ impl Placed {
             }
         }
         n
+    }
+
+    // The row placed first in the crew; past the last row where it has none.
+    fn first(self, crew: usize) -> usize {
+        for k in 0..ROWS {
+            if self.in_crew(k, crew) {
+                return self.row_at(k);
+            }
+        }
+        ROWS
+    }
+
+    // Whether the row may be placed next: the first row placed in a crew comes behind the first of the crew before.
+    fn in_order(self, row: usize) -> bool {
+        let closed = self.closed;
+        if closed == 0 {
+            return true;
+        }
+        if self.members(closed) != 0 {
+            return true;
+        }
+        self.first(closed - 1) < row
     }
 
     // Whether the row is in a crew.

@@ -1,6 +1,7 @@
 // What is known of every set of rows as an absence, and from that what a reply has to be. Blocking is known by trying everything; need and
 // crews by the plain rules of filling and of the order of absences.
 use crate::brute;
+use crate::filling::Filled;
 use crate::filling::Placed;
 use crate::order;
 use crate::order::Ranks;
@@ -267,9 +268,18 @@ impl Known {
     }
 }
 
-// What a question for the absence with this number has to reply: whether there is a list by trying everything, which by filling.
+// What a question for the absence with this number has to reply.
 pub(crate) fn named_reply(known: Known, duty: Duty, number: usize) -> Wanted {
-    let filled = duty.fill(set_of(number));
+    filled_reply(known, number, duty.fill(set_of(number)))
+}
+
+// What it had to reply by the rule before.
+pub(crate) fn unordered_reply(known: Known, duty: Duty, number: usize) -> Wanted {
+    filled_reply(known, number, duty.fill_unordered(set_of(number)))
+}
+
+// Whether there is a list is by trying everything, which by filling.
+fn filled_reply(known: Known, number: usize, filled: Filled) -> Wanted {
     if known.fact(number).blocks {
         return Wanted {
             verdict: NONE,

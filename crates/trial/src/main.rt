@@ -24,7 +24,7 @@ use shown::show_verdict;
 // "NAME: N compared, M differ"
 fn show(kind: usize, counted: Kind) {
     show_name(
-        b"verdict|blocker|crews|units|named absence|both searches|need of skipping at most that of full|allowance|filling and trying everything",
+        b"verdict|blocker|crews|units|named absence|both searches|need of skipping at most that of full|allowance|filling and trying everything|list by the rule before|placements at most by that rule",
         kind,
     );
     io::write_all(1, b": ");

@@ -143,6 +143,20 @@ fn filling(counts: Counts, ground: Ground) -> Counts {
     compare::filling(missed, question, wanted.but(known::NONE), true)
 }
 
+// The comparison with the rule before, with some parts altered; by that rule the reply to the named absence is the same.
+fn before(counts: Counts, ground: Ground, from: usize, to: usize) -> Counts {
+    let question = ground.named_question(question::BEFORE);
+    let wanted = ground.named;
+    let reply = question.reply();
+    let mut now = counts;
+    for part in 0..4 {
+        if part >= from && part < to {
+            now = compare::before(now, question, wanted, altered(reply, part));
+        }
+    }
+    now
+}
+
 // The comparison of one kind, on wrong replies alone.
 pub(crate) fn planted(counts: Counts, ground: Ground, kind: usize) -> Counts {
     if kind <= compare::UNITS {
@@ -159,6 +173,12 @@ pub(crate) fn planted(counts: Counts, ground: Ground, kind: usize) -> Counts {
     }
     if kind == compare::ALLOWANCE {
         return allowed(counts, ground);
+    }
+    if kind == compare::LIST {
+        return before(counts, ground, compare::VERDICT, compare::UNITS);
+    }
+    if kind == compare::PLACEMENTS {
+        return before(counts, ground, compare::UNITS, compare::NAMED);
     }
     filling(counts, ground)
 }

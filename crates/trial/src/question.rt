@@ -5,7 +5,8 @@ use roster::Table;
 // More than any need here.
 pub const AMPLE: u32 = 4294967295;
 
-// The ways to ask: either search, the two against each other, a named absence, and filling crews for one against trying everything.
+// The ways to ask: either search, the two against each other, a named absence, and filling crews for one against trying everything or against
+// the rule before.
 pub const SKIPPING: usize = 0;
 
 pub const FULL: usize = 1;
@@ -15,6 +16,8 @@ pub const BOTH: usize = 2;
 pub const NAMED: usize = 3;
 
 pub const FILLING: usize = 4;
+
+pub const BEFORE: usize = 5;
 
 // A duty as the libraries have it.
 pub struct Asked {

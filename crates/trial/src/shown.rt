@@ -102,7 +102,7 @@ fn show_reply(reply: Wanted) {
 fn show_question(question: Question) {
     let asked = question.asked;
     let table = asked.table;
-    show_name(b"skipping|full|both|named|filling", question.way);
+    show_name(b"skipping|full|both|named|filling|before", question.way);
     show_table(table);
     show_number(b' ', wide(asked.task));
     show_number(b';', wide(question.away));

@@ -2,7 +2,7 @@
 -- `tried-ascending` say what the list is, exactness of the filling that its test is `Blocks`, and the swap (`first-tried`, `first-blocker-worth`,
 -- `none-worth-none`) that leaving out what is not worth trying loses neither the first blocker nor a "yes". Assumes nothing.
 use mathlib.Core.Path.{_≡_, refl, ap₂, subst}
-use mathlib.Core.Logic.{_⊎_, inl, inr}
+use mathlib.Core.Logic.{_⊎_, inl, inr, ⊎-elim}
 use mathlib.Core.Bool.{Bool, true, false}
 use Prim.Native.Nat.{ℕ, _^_, _≤_, _<_}
 use native.Mathlib.Decide.{decLe}
@@ -19,9 +19,10 @@ use Rattle.roster.specs.Refusals.{policyRuling}
 use Rattle.roster.specs.Laws.Order.{earlier-irrefl, earlier-trans}
 use Rattle.roster.specs.Laws.Swap.{first-tried, first-blocker-worth, none-worth-none}
 use Rattle.roster.specs.Laws.Rulings.{policy-within}
+use Rattle.crews.specs.Filling.{filling}
 use Rattle.crews.specs.Laws.Exact.{Fair, blocks-none, finds-none}
-use Rattle.absences.specs.Tried.{Way, full, skipping, tried, Found, weighed}
-use Rattle.absences.specs.Asked.{Refuses, Admits, needPolicy}
+use Rattle.absences.specs.Tried.{Way, full, skipping, tried, Found}
+use Rattle.absences.specs.Asked.{Refuses, Admits, found}
 use Rattle.absences.specs.Replied.{judged, verdictOf}
 use Rattle.absences.specs.Laws.Listed.{Picked, tried-sound, tried-complete, tried-ascending}
 use Rattle.absences.specs.Laws.Weighed.{clash, all-fit, Stops, stops}
@@ -50,9 +51,6 @@ module _ (table : Table) (P s d t : ℕ) where
 
 -- ---- what the list comes to, in words of the meaning
 
-abbrev pub found : Way → Table → ℕ → ℕ → ℕ → ℕ → Found
-found way table P s d t = weighed table P d t (tried way table P s)
-
 module _ (way : Way) (table : Table) (P s d t : ℕ) (fair : Fair table P d) where
   abbrev asked : Found
   asked = found way table P s d t
@@ -60,10 +58,10 @@ module _ (way : Way) (table : Table) (P s d t : ℕ) (fair : Fair table P d) whe
   pub none-blocks : asked .blocked ≡ false → Holds table P s d t
   none-blocks e =
       picked-holds table P s d t way (λ A a p b.
-      clash (all-fit table P d t (tried way table P s) e A (tried-complete way table P s A a p)) (blocks-none fair t A b))
+      clash (all-fit (filling table P d t) (tried way table P s) e A (tried-complete way table P s A a p)) (blocks-none fair t A b))
 
   -- where trying stops is the first blocking absence
-  pub stops-first : (B : ℕ) → Stops table P d t (tried way table P s) B → FirstBlocker table P s d t B
+  pub stops-first : (B : ℕ) → Stops (filling table P d t) table P (tried way table P s) B → FirstBlocker table P s d t B
   stops-first B st =
       let is = tried-sound way table P s B (st .listed) in
       picked-first table P s d t way B (record {
@@ -80,7 +78,7 @@ module _ (way : Way) (table : Table) (P s d t : ℕ) (fair : Fair table P d) whe
       before C h k early (inr q) = earlier-irrefl table P C (earlier-trans table P C B C h k early q)
 
   pub one-blocks : asked .blocked ≡ true → FirstBlocker table P s d t (asked .blocker)
-  one-blocks e = stops-first (asked .blocker) (stops table P d t (tried way table P s) e)
+  one-blocks e = stops-first (asked .blocker) (stops (filling table P d t) table P (tried way table P s) e)
 
 -- ---- the verdict of the definition
 
@@ -94,14 +92,12 @@ module _ (w : Found) (allowance : ℕ) where
 
 -- ---- which row of the table "What comes back" a question falls under
 
-pub data Case (way : Way) (table : Table) (P s d t allowance : ℕ) : Type 0 where
-  is-refused : (refusal : Refusal) → Refuses table P s d t refusal → Case way table P s d t allowance
-  is-undecided : Admits table P s d t → allowance < needPolicy way table P s d t
-      → Case way table P s d t allowance
-  is-yes : Admits table P s d t → needPolicy way table P s d t ≤ allowance → Holds table P s d t
-      → Case way table P s d t allowance
-  is-no : Admits table P s d t → needPolicy way table P s d t ≤ allowance
-      → (A : ℕ) → FirstBlocker table P s d t A → Case way table P s d t allowance
+-- whatever the need is
+pub data Case (need : ℕ) (table : Table) (P s d t allowance : ℕ) : Type 0 where
+  is-refused : (refusal : Refusal) → Refuses table P s d t refusal → Case need table P s d t allowance
+  is-undecided : Admits table P s d t → allowance < need → Case need table P s d t allowance
+  is-yes : Admits table P s d t → need ≤ allowance → Holds table P s d t → Case need table P s d t allowance
+  is-no : Admits table P s d t → need ≤ allowance → (A : ℕ) → FirstBlocker table P s d t A → Case need table P s d t allowance
 
 -- an admitted question is one that filling decides exactly
 pub admitted-fair : (table : Table) (P s d t : ℕ) → P < 2 ^ 32 → Admits table P s d t → Fair table P d
@@ -109,19 +105,21 @@ admitted-fair table P s d t w e =
     let k = policy-within (table .rows) P s d t e in
     record { rows = k .rows; task = k .task; wide = w; some = k .some; few = k .few }
 
--- every question falls under one; P has 32 bits
-pub policy-case : (way : Way) (table : Table) (P s d t : ℕ) → P < 2 ^ 32 → (allowance : ℕ) → Case way table P s d t allowance
-policy-case way table P s d t wide allowance = under (policyRuling (table .rows) P s d t) refl
-  where
-    tells : Admits table P s d t → needPolicy way table P s d t ≤ allowance
-        → (found way table P s d t .blocked ≡ true) ⊎ (found way table P s d t .blocked ≡ false) → Case way table P s d t allowance
-    tells e l (inl b) = is-no e l (found way table P s d t .blocker) (one-blocks way table P s d t (admitted-fair table P s d t wide e) b)
-    tells e l (inr b) = is-yes e l (none-blocks way table P s d t (admitted-fair table P s d t wide e) b)
+-- an admitted policy holds, or has a first blocker: what the full search comes to tells
+holds-or-first : (table : Table) (P s d t : ℕ) → Fair table P d → Holds table P s d t ⊎ ((A : ℕ) × FirstBlocker table P s d t A)
+holds-or-first table P s d t fair =
+    ⊎-elim (λ b. inr (found full table P s d t .blocker, one-blocks full table P s d t fair b)) (λ b. inl (none-blocks full table P s d t fair b))
+    (either (found full table P s d t .blocked))
 
-    under : (r : Ruling) → policyRuling (table .rows) P s d t ≡ r → Case way table P s d t allowance
+-- every question falls under one; P has 32 bits
+pub policy-case : (need : ℕ) (table : Table) (P s d t : ℕ) → P < 2 ^ 32 → (allowance : ℕ) → Case need table P s d t allowance
+policy-case need table P s d t wide allowance = under (policyRuling (table .rows) P s d t) refl
+  where
+    under : (r : Ruling) → policyRuling (table .rows) P s d t ≡ r → Case need table P s d t allowance
     under (ruling.Refused refusal) e = is-refused refusal e
-    under ruling.Admitted e = pick (decLe (needPolicy way table P s d t) allowance)
+    under ruling.Admitted e = pick (decLe need allowance)
       where
-        pick : Dec (needPolicy way table P s d t ≤ allowance) → Case way table P s d t allowance
-        pick (yes l) = tells e l (either (found way table P s d t .blocked))
+        pick : Dec (need ≤ allowance) → Case need table P s d t allowance
+        pick (yes l) =
+            ⊎-elim (λ h. is-yes e l h) (λ f. is-no e l (f .0) (f .1)) (holds-or-first table P s d t (admitted-fair table P s d t wide e))
         pick (no l) = is-undecided e (omega arith)

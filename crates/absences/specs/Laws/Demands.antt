@@ -25,28 +25,32 @@ use Rattle.crews.specs.Named.{firstList}
 use Rattle.crews.specs.Laws.Sound.{Eight, none-at}
 use Rattle.crews.specs.Laws.Exact.{crews-eight, crews-past, Fair, finds-list, finds-none, holds-all}
 use Rattle.absences.specs.Tried.{Way, full, skipping, Found}
-use Rattle.absences.specs.Asked.{Refuses, Admits, needPolicy, PolicyReply}
+use Rattle.absences.specs.Asked.{Refuses, Admits, found, needPolicy, PolicyReplyBy, PolicyReply}
 use Rattle.absences.specs.Replied.{verdictOf, repliedBy, policyReplyOf}
 use Rattle.absences.specs.Laws.Listed.{tried-complete, tried-ascending}
-use Rattle.absences.specs.Laws.Decided.{first-picked, first-not-holds, found, none-blocks, stops-first, one-blocks, verdict-late, verdict-within, Case, is-refused, is-undecided, is-yes, is-no, admitted-fair, policy-case}
+use Rattle.absences.specs.Laws.Decided.{first-picked, first-not-holds, none-blocks, stops-first, one-blocks, verdict-late, verdict-within, Case, is-refused, is-undecided, is-yes, is-no, admitted-fair, policy-case}
 use Rattle.absences.specs.Laws.Weighed.{tried-thinned, thinned-need}
 
 -- ---- demand 1: every input has a reply, and only one
 
--- P has 32 bits
+-- whatever trying the absences comes to; P has 32 bits
+pub replies-same : (w : Found) (crews : List ℕ) (table : Table) (P s d t : ℕ) → P < 2 ^ 32 → (allowance : ℕ) (r q : Reply)
+    → PolicyReplyBy w crews table P s d t allowance r → PolicyReplyBy w crews table P s d t allowance q → r ≡ q
+replies-same w crews table P s d t wide allowance r q a b = go (policy-case (w .need) table P s d t wide allowance)
+  where
+    go : Case (w .need) table P s d t allowance → r ≡ q
+    go (is-refused refusal e) = a .refused refusal e ∙ sym (b .refused refusal e)
+    go (is-undecided e l) = a .undecided e l ∙ sym (b .undecided e l)
+    go (is-yes e l h) = a .yes e l h ∙ sym (b .yes e l h)
+    go (is-no e l A f) = a .no e l A f ∙ sym (b .no e l A f)
+
 module _ (way : Way) (table : Table) (P s d t : ℕ) (wide : P < 2 ^ 32) (allowance : ℕ) where
   abbrev need : ℕ
   need = needPolicy way table P s d t
 
   -- "any two replies allowed for one input are equal"
   pub policy-same : (r q : Reply) → PolicyReply way table P s d t allowance r → PolicyReply way table P s d t allowance q → r ≡ q
-  policy-same r q a b = go (policy-case way table P s d t wide allowance)
-    where
-      go : Case way table P s d t allowance → r ≡ q
-      go (is-refused refusal e) = a .refused refusal e ∙ sym (b .refused refusal e)
-      go (is-undecided e l) = a .undecided e l ∙ sym (b .undecided e l)
-      go (is-yes e l h) = a .yes e l h ∙ sym (b .yes e l h)
-      go (is-no e l A f) = a .no e l A f ∙ sym (b .no e l A f)
+  policy-same = replies-same (found way table P s d t) (firstList table P d t 0) table P s d t wide allowance
 
   -- and one is allowed: the one that the definition gives
   pub policy-allowed : PolicyReply way table P s d t allowance (policyReplyOf way table P s d t allowance)
@@ -129,12 +133,12 @@ never e = absurd (omega arith)
 module _ (way : Way) (table : Table) (P s d t : ℕ) (wide : P < 2 ^ 32) (allowance : ℕ) (r : Reply) (a : PolicyReply way table P s d t allowance r) where
   -- By the row that the question falls under: there the reply is given, and what is asked of another row cannot be.
   pub policy-exactly : Tells way table P s d t allowance r
-  policy-exactly = go (policy-case way table P s d t wide allowance)
+  policy-exactly = go (policy-case (needPolicy way table P s d t) table P s d t wide allowance)
     where
       empty : r .crews ≡ noCrews → Eight d (r .crews)
       empty e = subst (Eight d) (sym e) (record { many = refl; past = λ j m. none-at j })
 
-      go : Case way table P s d t allowance → Tells way table P s d t allowance r
+      go : Case (needPolicy way table P s d t) table P s d t allowance → Tells way table P s d t allowance r
       go (is-refused refusal e) =
           let k = a .refused refusal e in
           let v : r .verdict ≡ Refused refusal = ap Reply.verdict k in
@@ -230,73 +234,84 @@ module _ (way : Way) (table : Table) (P s d t : ℕ) (wide : P < 2 ^ 32) (allowa
 
 -- ---- demand 3
 
--- both searches, or one with two allowances: whatever two of them decide, they decide alike
+-- whatever two searches, rules of filling or allowances there are: what both decide, they decide alike
 module _ (table : Table) (P s d t : ℕ) (wide : P < 2 ^ 32) where
   abbrev Alike : Reply → Reply → Type 0
   Alike r q = (r .verdict ≡ q .verdict) × (r .crews ≡ q .crews) × (r .blocker ≡ q .blocker)
 
-  decided-alike : (way other : Way) (a b : ℕ) (r q : Reply) → PolicyReply way table P s d t a r → PolicyReply other table P s d t b q
+  pub decided-alike : (w v : Found) (crews list : List ℕ) → (Admits table P s d t → crews ≡ list) → (a b : ℕ) (r q : Reply)
+      → PolicyReplyBy w crews table P s d t a r → PolicyReplyBy v list table P s d t b q
       → r .verdict ≢ Undecided → q .verdict ≢ Undecided → Alike r q
-  decided-alike way other a b r q k m dr dq = go (policy-case way table P s d t wide a) (policy-case other table P s d t wide b)
+  decided-alike w v crews list same a b r q k m dr dq = go (policy-case (w .need) table P s d t wide a) (policy-case (v .need) table P s d t wide b)
     where
       alike : {x y : Reply} → r ≡ x → q ≡ y → Alike x y → Alike r q
-      alike v w (f, g, h) = (
-        ap Reply.verdict v ∙ f ∙ sym (ap Reply.verdict w),
-        ap Reply.crews v ∙ g ∙ sym (ap Reply.crews w),
-        ap Reply.blocker v ∙ h ∙ sym (ap Reply.blocker w),
+      alike i j (f, g, h) = (
+        ap Reply.verdict i ∙ f ∙ sym (ap Reply.verdict j),
+        ap Reply.crews i ∙ g ∙ sym (ap Reply.crews j),
+        ap Reply.blocker i ∙ h ∙ sym (ap Reply.blocker j),
       )
 
-      go : Case way table P s d t a → Case other table P s d t b → Alike r q
+      go : Case (w .need) table P s d t a → Case (v .need) table P s d t b → Alike r q
       go (is-refused n e) c = alike (k .refused n e) (m .refused n e) (refl, refl, refl)
       go (is-undecided e l) c = absurd (dr (ap Reply.verdict (k .undecided e l)))
       go (is-yes e l h) (is-refused n f) = never (cc)
       go (is-yes e l h) (is-undecided f j) = absurd (dq (ap Reply.verdict (m .undecided f j)))
-      go (is-yes e l h) (is-yes f j i) = alike (k .yes e l h) (m .yes f j i) (refl, refl, refl)
+      go (is-yes e l h) (is-yes f j i) = alike (k .yes e l h) (m .yes f j i) (refl, same e, refl)
       go (is-yes e l h) (is-no f j B i) = absurd (first-not-holds table P s d t B i h)
       go (is-no e l A h) (is-refused n f) = never (cc)
       go (is-no e l A h) (is-undecided f j) = absurd (dq (ap Reply.verdict (m .undecided f j)))
       go (is-no e l A h) (is-yes f j i) = absurd (first-not-holds table P s d t A h i)
       go (is-no e l A h) (is-no f j B i) = alike (k .no e l A h) (m .no f j A h) (refl, refl, refl)
 
+  -- with no more need a reply is decided whenever the other is, with no more units
+  pub decided-sooner : (w v : Found) (crews list : List ℕ) (a : ℕ) (r q : Reply) → (Admits table P s d t → v .need ≤ w .need)
+      → PolicyReplyBy w crews table P s d t a r → PolicyReplyBy v list table P s d t a q
+      → r .verdict ≢ Undecided → (q .verdict ≢ Undecided) × (q .units ≤ r .units)
+  decided-sooner w v crews list a r q less k m dr = go (policy-case (w .need) table P s d t wide a)
+    where
+      go : Case (w .need) table P s d t a → (q .verdict ≢ Undecided) × (q .units ≤ r .units)
+      go (is-refused n e) =
+          let x = ap Reply.verdict (m .refused n e) in
+          (λ u. never (cc), omega (arith, ap Reply.units (k .refused n e), ap Reply.units (m .refused n e)))
+      go (is-undecided e l) = absurd (dr (ap Reply.verdict (k .undecided e l)))
+      go (is-yes e l h) =
+          let j = less e in
+          let i = m .yes e (omega arith) h in
+          let x = ap Reply.verdict i in
+          (λ u. never (cc), omega (arith, ap Reply.units i, ap Reply.units (k .yes e l h)))
+      go (is-no e l A f) =
+          let j = less e in
+          let i = m .no e (omega arith) A f in
+          let x = ap Reply.verdict i in
+          (λ u. never (cc), omega (arith, ap Reply.units i, ap Reply.units (k .no e l A f)))
+
   -- "the search that skips and the search that skips nothing give the same verdict, crews and blocker whenever both decide"
   pub demand-3-same : (a b : ℕ) (r q : Reply) → PolicyReply full table P s d t a r → PolicyReply skipping table P s d t b q
       → r .verdict ≢ Undecided → q .verdict ≢ Undecided → (r .verdict ≡ q .verdict) × (r .crews ≡ q .crews) × (r .blocker ≡ q .blocker)
-  demand-3-same = decided-alike full skipping
+  demand-3-same =
+      let crews : List ℕ = firstList table P d t 0 in
+      decided-alike (found full table P s d t) (found skipping table P s d t) crews crews (λ e. refl)
 
   -- "with no more work counted": the first blocker is worth trying, so what is skipped before it only costs the other search units
   pub demand-3-need : Admits table P s d t → needPolicy skipping table P s d t ≤ needPolicy full table P s d t
   demand-3-need e =
-      thinned-need table P d t (tried-thinned table P s) (tried-ascending full table P s) (λ B st.
+      thinned-need (filling table P d t) table P (tried-thinned table P s) (tried-ascending full table P s) (λ B st.
       let f = stops-first full table P s d t (admitted-fair table P s d t wide e) B st in
       tried-complete skipping table P s B (record { rows = f .rows; few = f .is .0 }) (first-picked table P s d t skipping B f))
 
   -- "The skipping one decides whenever the other does", with no more units
   pub demand-3-decides : (a : ℕ) (r q : Reply) → PolicyReply full table P s d t a r → PolicyReply skipping table P s d t a q
       → r .verdict ≢ Undecided → (q .verdict ≢ Undecided) × (q .units ≤ r .units)
-  demand-3-decides a r q k m dr = go (policy-case full table P s d t wide a)
-    where
-      go : Case full table P s d t a → (q .verdict ≢ Undecided) × (q .units ≤ r .units)
-      go (is-refused n e) =
-          let v = ap Reply.verdict (m .refused n e) in
-          (λ u. never (cc), omega (arith, ap Reply.units (k .refused n e), ap Reply.units (m .refused n e)))
-      go (is-undecided e l) = absurd (dr (ap Reply.verdict (k .undecided e l)))
-      go (is-yes e l h) =
-          let less = demand-3-need e in
-          let v = m .yes e (omega arith) h in
-          let w = ap Reply.verdict v in
-          (λ u. never (cc), omega (arith, ap Reply.units v, ap Reply.units (k .yes e l h)))
-      go (is-no e l A f) =
-          let less = demand-3-need e in
-          let v = m .no e (omega arith) A f in
-          let w = ap Reply.verdict v in
-          (λ u. never (cc), omega (arith, ap Reply.units v, ap Reply.units (k .no e l A f)))
+  demand-3-decides a r q =
+      let crews : List ℕ = firstList table P d t 0 in
+      decided-sooner (found full table P s d t) (found skipping table P s d t) crews crews a r q demand-3-need
 
   -- "a larger allowance never alters a decided reply"
   pub demand-3-larger : (way : Way) (a b : ℕ) (r q : Reply) → a ≤ b → PolicyReply way table P s d t a r → PolicyReply way table P s d t b q
       → r .verdict ≢ Undecided → q ≡ r
-  demand-3-larger way a b r q l k m dr = go (policy-case way table P s d t wide a)
+  demand-3-larger way a b r q l k m dr = go (policy-case (needPolicy way table P s d t) table P s d t wide a)
     where
-      go : Case way table P s d t a → q ≡ r
+      go : Case (needPolicy way table P s d t) table P s d t a → q ≡ r
       go (is-refused n e) = m .refused n e ∙ sym (k .refused n e)
       go (is-undecided e j) = absurd (dr (ap Reply.verdict (k .undecided e j)))
       go (is-yes e j h) = m .yes e (omega arith) h ∙ sym (k .yes e j h)

@@ -9,7 +9,7 @@ use native.Mathlib.Omega.{arith}
 use Rattle.sets.specs.Laws.Sums.{either}
 use Rattle.roster.specs.declared.Table.{Table}
 use Rattle.roster.specs.Meaning.{Blocks}
-use Rattle.crews.specs.Filling.{filling}
+use Rattle.crews.specs.Filling.{Outcome, filling}
 use Rattle.crews.specs.Named.{needNamed}
 use Rattle.crews.specs.Laws.Exact.{Fair, blocks-none, finds-none}
 use Rattle.absences.specs.Tried.{Way, tried, Found, unitsOf, weighed}
@@ -29,30 +29,30 @@ cost table P d t A = 1 + needNamed table P d t A
 
 -- ---- what a list needs
 
-module _ (table : Table) (P d t : ℕ) where
+module _ (fill : ℕ → Outcome) where
   abbrev fits : ℕ → Bool
-  fits A = filling table P d t A .found
+  fits A = fill A .found
 
   abbrev units : ℕ → ℕ
-  units A = unitsOf (filling table P d t A)
+  units A = unitsOf (fill A)
 
   abbrev need : List ℕ → ℕ
-  need l = weighed table P d t l .need
+  need l = weighed fill l .need
 
   all-summed : (l : List ℕ) → ((A : ℕ) → List·Memᴰ A l → fits A ≡ true) → need l ≡ sumOf units l
   unfolding sumOf
-  all-summed [] f = ap Found.need (weighed-none table P d t)
+  all-summed [] f = ap Found.need (weighed-none fill)
   all-summed (A ∷ l) f =
       let rest = all-summed l (λ B i. f B (List·Memᴰ·tail i)) in
-      omega (arith, ap Found.need (weighed-fits table P d t A l (f A (List·Memᴰ·head refl))))
+      omega (arith, ap Found.need (weighed-fits fill A l (f A (List·Memᴰ·head refl))))
 
   first-summed : (l m : List ℕ) (B : ℕ) → ((A : ℕ) → List·Memᴰ A l → fits A ≡ true) → fits B ≡ false
       → need (l ++ (B ∷ m)) ≡ sumOf units (l ++ (B ∷ []))
   unfolding sumOf
-  first-summed [] m B f b = omega (arith, ap Found.need (weighed-blocks table P d t B m b))
+  first-summed [] m B f b = omega (arith, ap Found.need (weighed-blocks fill B m b))
   first-summed (A ∷ l) m B f b =
       let rest = first-summed l m B (λ C i. f C (List·Memᴰ·tail i)) b in
-      omega (arith, ap Found.need (weighed-fits table P d t A (l ++ (B ∷ m)) (f A (List·Memᴰ·head refl))))
+      omega (arith, ap Found.need (weighed-fits fill A (l ++ (B ∷ m)) (f A (List·Memᴰ·head refl))))
 
 -- ---- what a policy question needs
 
@@ -61,19 +61,19 @@ module _ (way : Way) (table : Table) (P s d t : ℕ) (wide : P < 2 ^ 32) (admitt
   fair = admitted-fair table P s d t wide admitted
 
   -- the filling finds a list for what is tried and does not block
-  does-fit : (A : ℕ) → List·Memᴰ A (tried way table P s) → (Blocks table P d t A → ⊥) → fits table P d t A ≡ true
+  does-fit : (A : ℕ) → List·Memᴰ A (tried way table P s) → (Blocks table P d t A → ⊥) → fits (filling table P d t) A ≡ true
   does-fit A i n =
-      ⊎-elim (λ e. e) (λ e. absurd (n (finds-none fair t A (tried-sound way table P s A i .0 .rows) e))) (either (fits table P d t A))
+      ⊎-elim (λ e. e) (λ e. absurd (n (finds-none fair t A (tried-sound way table P s A i .0 .rows) e))) (either (fits (filling table P d t) A))
 
   -- all of the list, if nothing in it blocks
   pub need-all : ((A : ℕ) → List·Memᴰ A (tried way table P s) → Blocks table P d t A → ⊥)
       → needPolicy way table P s d t ≡ sumOf (cost table P d t) (tried way table P s)
-  need-all none = all-summed table P d t (tried way table P s) (λ A i. does-fit A i (none A i))
+  need-all none = all-summed (filling table P d t) (tried way table P s) (λ A i. does-fit A i (none A i))
 
   -- the list up to and including B, if B is the first in it that blocks
   pub need-first : (l m : List ℕ) (B : ℕ) → tried way table P s ≡ l ++ (B ∷ m) → ((A : ℕ) → List·Memᴰ A l → Blocks table P d t A → ⊥)
       → Blocks table P d t B → needPolicy way table P s d t ≡ sumOf (cost table P d t) (l ++ (B ∷ []))
   need-first l m B split none b =
-      ap (need table P d t) split
-      ∙ first-summed table P d t l m B
+      ap (need (filling table P d t)) split
+      ∙ first-summed (filling table P d t) l m B
       (λ A i. does-fit A (subst (List·Memᴰ A) (sym split) (Memᴰ·append-left (B ∷ m) i)) (none A i)) (blocks-none fair t B b)

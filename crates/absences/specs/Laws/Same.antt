@@ -1,6 +1,6 @@
 -- Holdings outside P, and those past the row count, play no part in either search: tables that agree within P below the count get the same list of
 -- absences, the same need and equal replies. Assumes nothing.
-use mathlib.Core.Path.{_≡_, refl, sym, ap, ap₂, _∙_}
+use mathlib.Core.Path.{_≡_, refl, sym, ap, ap₂, _∙_, fun-ext}
 use mathlib.Core.Logic.{_⊎_, inl, inr}
 use mathlib.Core.Bool.{true, false, not, _&&_, _||_}
 use mathlib.Core.List.{List, [], _∷_, _++_}
@@ -21,12 +21,11 @@ use Rattle.roster.specs.Laws.Rank.{outweighsb}
 use Rattle.roster.specs.Laws.Same.{Agree, same-rank}
 use Rattle.crews.specs.Filling.{Outcome, filling}
 use Rattle.crews.specs.Laws.Same.{same-filling}
-use Rattle.absences.specs.Tried.{rowFrom, rowAt, Way, full, skipping, joins, listed, sizesFrom, sizesTo, tried, Found, unitsOf, weighed}
-use Rattle.absences.specs.Asked.{PolicyReply}
+use Rattle.absences.specs.Tried.{rowFrom, rowAt, Way, full, skipping, joins, listed, sizesFrom, sizesTo, tried, Found, weighed}
+use Rattle.absences.specs.Asked.{found, PolicyReply}
 use Rattle.absences.specs.Replied.{repliedBy, policyReplyOf}
 use Rattle.absences.specs.Laws.Rows.{row-here, row-next, rowAt-lt}
 use Rattle.absences.specs.Laws.OneSize.{listed-joins, listed-not, none-more, none-left}
-use Rattle.absences.specs.Laws.Weighed.{dearer, weighed-fits, weighed-blocks}
 use Rattle.absences.specs.Laws.Demands.{policy-is}
 
 module _ (table other : Table) (P : ℕ) (same : Agree table other P) where
@@ -93,31 +92,15 @@ module _ (table other : Table) (P : ℕ) (same : Agree table other P) where
 
   module _ (d t : ℕ) where
     -- and trying them comes to the same
-    pub same-weighed : (l : List ℕ) → weighed table P d t l ≡ weighed other P d t l
-    unfolding weighed
-    same-weighed [] = refl
-    same-weighed (A ∷ l) = go (either (filling table P d t A .found)) (same-weighed l)
-      where
-        fill : filling table P d t A ≡ filling other P d t A
-        fill = same-filling table other P same d t A
-
-        go : (filling table P d t A .found ≡ true) ⊎ (filling table P d t A .found ≡ false) → weighed table P d t l ≡ weighed other P d t l
-            → weighed table P d t (A ∷ l) ≡ weighed other P d t (A ∷ l)
-        go (inl f) ih =
-            weighed-fits table P d t A l f
-            ∙ ap₂ (λ (o : Outcome) (w : Found). dearer (unitsOf o) w) fill ih
-            ∙ sym (weighed-fits other P d t A l (sym (ap Outcome.found fill) ∙ f))
-        go (inr f) ih =
-            weighed-blocks table P d t A l f
-            ∙ ap {B = Found} (λ (o : Outcome). record { blocked = true; blocker = A; need = unitsOf o }) fill
-            ∙ sym (weighed-blocks other P d t A l (sym (ap Outcome.found fill) ∙ f))
+    pub same-weighed : (l : List ℕ) → weighed (filling table P d t) l ≡ weighed (filling other P d t) l
+    same-weighed l = ap (λ (fill : ℕ → Outcome). weighed fill l) (fun-ext (same-filling table other P same d t))
 
     same-reply : (way : Way) (s allowance : ℕ) → policyReplyOf way table P s d t allowance ≡ policyReplyOf way other P s d t allowance
     unfolding policyReplyOf
     same-reply way s allowance =
-        ap (λ (n : ℕ). repliedBy (policyRuling n P s d t) (weighed table P d t (tried way table P s)) (filling table P d t 0 .crews) allowance) (same .count)
+        ap (λ (n : ℕ). repliedBy (policyRuling n P s d t) (found way table P s d t) (filling table P d t 0 .crews) allowance) (same .count)
         ∙ ap₂ (λ (w : Found) (o : Outcome). repliedBy (policyRuling (other .rows) P s d t) w (o .crews) allowance)
-        (ap (weighed table P d t) (same-tried way s) ∙ same-weighed (tried way other P s)) (same-filling table other P same d t 0)
+        (ap (weighed (filling table P d t)) (same-tried way s) ∙ same-weighed (tried way other P s)) (same-filling table other P same d t 0)
 
 -- Tables that agree within P below the count get equal replies, by either search.
 pub policy-agree : (way : Way) (table other : Table) (P s d t allowance : ℕ) → P < 2 ^ 32 → Agree table other P → (r q : Reply)

@@ -1,6 +1,6 @@
 -- What trying a list of absences comes to: the first of them that blocks, if any, and the units up to it. And the comparison that demand 3 rests
--- on: a list that leaves some absences out, but not the first blocker, never needs more. Here "blocks" is what the filling finds; `Demands` puts
--- the meaning in its place. Assumes nothing.
+-- on: a list that leaves some absences out, but not the first blocker, never needs more. Here "blocks" is what the filling finds, whatever its rule;
+-- `Decided` puts the meaning in its place. Assumes nothing.
 use mathlib.Core.Path.{_≡_, refl, sym, ap, _∙_, subst}
 use mathlib.Core.Logic.{_⊎_, inl, inr}
 use mathlib.Core.Bool.{Bool, true, false}
@@ -13,7 +13,7 @@ use Rattle.sets.specs.Laws.Sums.{either}
 use Rattle.roster.specs.declared.Table.{Table}
 use Rattle.roster.specs.Meaning.{Earlier}
 use Rattle.roster.specs.Laws.Order.{earlier-irrefl}
-use Rattle.crews.specs.Filling.{Outcome, filling}
+use Rattle.crews.specs.Filling.{Outcome}
 use Rattle.absences.specs.Tried.{rowAt, full, skipping, joins, listed, sizesFrom, tried, Found, unitsOf, weighed}
 use Rattle.absences.specs.Laws.OneSize.{Ascending, listed-joins, listed-not}
 
@@ -54,25 +54,25 @@ on-top-fits A o w e = rw e
 on-top-blocks : (A : ℕ) (o : Outcome) (w : Found) → o .found ≡ false → onTop A o w ≡ record { blocked = true; blocker = A; need = unitsOf o }
 on-top-blocks A o w e = rw e
 
-module _ (table : Table) (P d t : ℕ) where
+module _ (fill : ℕ → Outcome) where
   abbrev fits : ℕ → Bool
-  fits A = filling table P d t A .found
+  fits A = fill A .found
 
   abbrev cost : ℕ → ℕ
-  cost A = unitsOf (filling table P d t A)
+  cost A = unitsOf (fill A)
 
   abbrev tries : List ℕ → Found
-  tries = weighed table P d t
+  tries = weighed fill
 
   -- ---- one absence more
 
   pub weighed-fits : (A : ℕ) (l : List ℕ) → fits A ≡ true → tries (A ∷ l) ≡ dearer (cost A) (tries l)
   unfolding weighed
-  weighed-fits A l e = on-top-fits A (filling table P d t A) (tries l) e
+  weighed-fits A l e = on-top-fits A (fill A) (tries l) e
 
   pub weighed-blocks : (A : ℕ) (l : List ℕ) → fits A ≡ false → tries (A ∷ l) ≡ record { blocked = true; blocker = A; need = cost A }
   unfolding weighed
-  weighed-blocks A l e = on-top-blocks A (filling table P d t A) (tries l) e
+  weighed-blocks A l e = on-top-blocks A (fill A) (tries l) e
 
   pub weighed-none : tries [] ≡ record { blocked = false; blocker = 0; need = 0 }
   unfolding weighed
@@ -107,39 +107,41 @@ module _ (table : Table) (P d t : ℕ) where
       go (inl f) ih (inr q) = ih (sym (ap Found.blocked (weighed-fits B l f)) ∙ e) A q
       go (inr f) ih q = absurd (clash (ap Found.blocked (weighed-blocks B l f)) e)
 
-  -- something blocks: B is the first in the list for which the filling finds none
-  pub record Stops (l : List ℕ) (B : ℕ) : Type 0 where
-    pub listed : List·Memᴰ B l
-    pub stuck : fits B ≡ false
-    pub first : Ascending table P l → (A : ℕ) → List·Memᴰ A l → fits A ≡ false → (A ≡ B) ⊎ Earlier table P B A
+  -- in the order of this table and task
+  module _ (table : Table) (P : ℕ) where
+    -- something blocks: B is the first in the list for which the filling finds none
+    pub record Stops (l : List ℕ) (B : ℕ) : Type 0 where
+      pub listed : List·Memᴰ B l
+      pub stuck : fits B ≡ false
+      pub first : Ascending table P l → (A : ℕ) → List·Memᴰ A l → fits A ≡ false → (A ≡ B) ⊎ Earlier table P B A
 
-  stops-here : (B : ℕ) (l : List ℕ) → fits B ≡ false → Stops (B ∷ l) B
-  stops-here B l f = record { listed = List·Memᴰ·head refl; stuck = f; first = λ a A i q. go a A (List·Memᴰ·cases-cons i) }
-    where
-      go : Ascending table P (B ∷ l) → (A : ℕ) → (A ≡ B) ⊎ List·Memᴰ A l → (A ≡ B) ⊎ Earlier table P B A
-      go a A (inl c) = inl c
-      go a A (inr c) = inr (a .0 A c)
+    stops-here : (B : ℕ) (l : List ℕ) → fits B ≡ false → Stops (B ∷ l) B
+    stops-here B l f = record { listed = List·Memᴰ·head refl; stuck = f; first = λ a A i q. go a A (List·Memᴰ·cases-cons i) }
+      where
+        go : Ascending table P (B ∷ l) → (A : ℕ) → (A ≡ B) ⊎ List·Memᴰ A l → (A ≡ B) ⊎ Earlier table P B A
+        go a A (inl c) = inl c
+        go a A (inr c) = inr (a .0 A c)
 
-  stops-later : (A B : ℕ) (l : List ℕ) → fits A ≡ true → Stops l B → Stops (A ∷ l) B
-  stops-later A B l f s = record {
-    listed = List·Memᴰ·tail (s .listed);
-    stuck = s .stuck;
-    first = λ a C i q. go (a .1) C q (List·Memᴰ·cases-cons i);
-  }
-    where
-      go : Ascending table P l → (C : ℕ) → fits C ≡ false → (C ≡ A) ⊎ List·Memᴰ C l → (C ≡ B) ⊎ Earlier table P B C
-      go a C q (inl c) = absurd (clash f (sym (ap fits c) ∙ q))
-      go a C q (inr c) = s .first a C c q
+    stops-later : (A B : ℕ) (l : List ℕ) → fits A ≡ true → Stops l B → Stops (A ∷ l) B
+    stops-later A B l f s = record {
+      listed = List·Memᴰ·tail (s .listed);
+      stuck = s .stuck;
+      first = λ a C i q. go (a .1) C q (List·Memᴰ·cases-cons i);
+    }
+      where
+        go : Ascending table P l → (C : ℕ) → fits C ≡ false → (C ≡ A) ⊎ List·Memᴰ C l → (C ≡ B) ⊎ Earlier table P B C
+        go a C q (inl c) = absurd (clash f (sym (ap fits c) ∙ q))
+        go a C q (inr c) = s .first a C c q
 
-  pub stops : (l : List ℕ) → tries l .blocked ≡ true → Stops l (tries l .blocker)
-  stops [] e = absurd (clash e (ap Found.blocked weighed-none))
-  stops (A ∷ l) e = go (either (fits A)) (stops l)
-    where
-      go : (fits A ≡ true) ⊎ (fits A ≡ false) → (tries l .blocked ≡ true → Stops l (tries l .blocker)) → Stops (A ∷ l) (tries (A ∷ l) .blocker)
-      go (inl f) ih =
-          subst (Stops (A ∷ l)) (sym (ap Found.blocker (weighed-fits A l f)))
-          (stops-later A (tries l .blocker) l f (ih (sym (ap Found.blocked (weighed-fits A l f)) ∙ e)))
-      go (inr f) ih = subst (Stops (A ∷ l)) (sym (ap Found.blocker (weighed-blocks A l f))) (stops-here A l f)
+    pub stops : (l : List ℕ) → tries l .blocked ≡ true → Stops l (tries l .blocker)
+    stops [] e = absurd (clash e (ap Found.blocked weighed-none))
+    stops (A ∷ l) e = go (either (fits A)) (stops l)
+      where
+        go : (fits A ≡ true) ⊎ (fits A ≡ false) → (tries l .blocked ≡ true → Stops l (tries l .blocker)) → Stops (A ∷ l) (tries (A ∷ l) .blocker)
+        go (inl f) ih =
+            subst (Stops (A ∷ l)) (sym (ap Found.blocker (weighed-fits A l f)))
+            (stops-later A (tries l .blocker) l f (ih (sym (ap Found.blocked (weighed-fits A l f)) ∙ e)))
+        go (inr f) ih = subst (Stops (A ∷ l)) (sym (ap Found.blocker (weighed-blocks A l f))) (stops-here A l f)
 
 -- ---- a list that leaves some absences out
 
@@ -200,32 +202,32 @@ module _ (table : Table) (P : ℕ) where
   pub tried-thinned : (s : ℕ) → Thinned (tried skipping table P s) (tried full table P s)
   tried-thinned s = keep 0 (sizes-thinned _ _)
 
-module _ (table : Table) (P d t : ℕ) where
+module _ (fill : ℕ → Outcome) (table : Table) (P : ℕ) where
   abbrev need : List ℕ → ℕ
-  need l = weighed table P d t l .need
+  need l = weighed fill l .need
 
   -- Leaving absences out, but not the first that blocks, never makes the need larger.
-  pub thinned-need : {l m : List ℕ} → Thinned l m → Ascending table P m → ((B : ℕ) → Stops table P d t m B → List·Memᴰ B l) → need l ≤ need m
+  pub thinned-need : {l m : List ℕ} → Thinned l m → Ascending table P m → ((B : ℕ) → Stops fill table P m B → List·Memᴰ B l) → need l ≤ need m
   thinned-need none a has = omega arith
-  thinned-need (keep {l = l} {m = m} A s) a has = go (either (fits table P d t A)) (thinned-need s (a .1))
+  thinned-need (keep {l = l} {m = m} A s) a has = go (either (fits fill A)) (thinned-need s (a .1))
     where
-      go : (fits table P d t A ≡ true) ⊎ (fits table P d t A ≡ false)
-          → (((B : ℕ) → Stops table P d t m B → List·Memᴰ B l) → need l ≤ need m) → need (A ∷ l) ≤ need (A ∷ m)
-      go (inl f) ih = omega (arith, ap Found.need (weighed-fits table P d t A l f), ap Found.need (weighed-fits table P d t A m f), ih rest)
+      go : (fits fill A ≡ true) ⊎ (fits fill A ≡ false)
+          → (((B : ℕ) → Stops fill table P m B → List·Memᴰ B l) → need l ≤ need m) → need (A ∷ l) ≤ need (A ∷ m)
+      go (inl f) ih = omega (arith, ap Found.need (weighed-fits fill A l f), ap Found.need (weighed-fits fill A m f), ih rest)
         where
-          rest : (B : ℕ) → Stops table P d t m B → List·Memᴰ B l
-          rest B q = pick (List·Memᴰ·cases-cons (has B (stops-later table P d t A B m f q)))
+          rest : (B : ℕ) → Stops fill table P m B → List·Memᴰ B l
+          rest B q = pick (List·Memᴰ·cases-cons (has B (stops-later fill table P A B m f q)))
             where
               pick : (B ≡ A) ⊎ List·Memᴰ B l → List·Memᴰ B l
-              pick (inl e) = absurd (clash f (sym (ap (fits table P d t) e) ∙ q .stuck))
+              pick (inl e) = absurd (clash f (sym (ap (fits fill) e) ∙ q .stuck))
               pick (inr i) = i
-      go (inr f) ih = omega (arith, ap Found.need (weighed-blocks table P d t A l f), ap Found.need (weighed-blocks table P d t A m f))
-  thinned-need (leave {l = l} {m = m} A s) a has = go (either (fits table P d t A)) (thinned-need s (a .1))
+      go (inr f) ih = omega (arith, ap Found.need (weighed-blocks fill A l f), ap Found.need (weighed-blocks fill A m f))
+  thinned-need (leave {l = l} {m = m} A s) a has = go (either (fits fill A)) (thinned-need s (a .1))
     where
-      go : (fits table P d t A ≡ true) ⊎ (fits table P d t A ≡ false)
-          → (((B : ℕ) → Stops table P d t m B → List·Memᴰ B l) → need l ≤ need m) → need l ≤ need (A ∷ m)
+      go : (fits fill A ≡ true) ⊎ (fits fill A ≡ false)
+          → (((B : ℕ) → Stops fill table P m B → List·Memᴰ B l) → need l ≤ need m) → need l ≤ need (A ∷ m)
       go (inl f) ih =
-          let rest = ih (λ B q. has B (stops-later table P d t A B m f q)) in
-          omega (arith, ap Found.need (weighed-fits table P d t A m f))
+          let rest = ih (λ B q. has B (stops-later fill table P A B m f q)) in
+          omega (arith, ap Found.need (weighed-fits fill A m f))
       -- the first that blocks is not left out
-      go (inr f) ih = absurd (earlier-irrefl table P A (a .0 A (thinned-mem s A (has A (stops-here table P d t A m f)))))
+      go (inr f) ih = absurd (earlier-irrefl table P A (a .0 A (thinned-mem s A (has A (stops-here fill table P A m f)))))

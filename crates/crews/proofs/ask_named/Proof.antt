@@ -17,9 +17,10 @@ use Rattle.roster.specs.declared.Reply.{Reply}
 use Rattle.roster.specs.Refusals.{namedRuling}
 use Rattle.roster.specs.Replies.{noCrews, replyWith}
 use Rattle.roster.specs.Laws.Rulings.{named-within}
-use Rattle.crews.specs.Filling.{Outcome, plainly, holdsOf, holdersOf, present, filling}
+use Rattle.crews.specs.Filling.{Outcome, orderly, holdsOf, holdersOf, present, filling}
 use Rattle.sets.specs.Arrays.{tabulate, at}
-use Rattle.crews.specs.Filled.{endingOf, filledOf, foundFrom, verdictOf, repliedOf}
+use Rattle.crews.specs.Filled.{endingOf, filledOf, foundFrom}
+use Rattle.crews.specs.Inner.Replied.{verdictOf, repliedOf}
 use Rattle.crews.specs.Named.{NamedReply}
 use Rattle.crews.specs.Laws.Named.{allowed-by}
 use Rattle.crews.specs.Laws.Steps.{filled-fits, filled-over}
@@ -59,11 +60,11 @@ module _ (table : Table) (P d t A allowance : ℕ) (wide : P < 2 ^ 32) (r : Repl
 -- the search over what the calls handed back is the filling of the table
 same-filling : (table : Table) (P d t A : ℕ) → table .rows ≤ 64 → P ≢ 0 → P < 2 ^ 32 → d ≤ 8
     → (holds holders : List ℕ) (all : ℕ) → holds ≡ tabulate 64 (holdsOf table P) → holders ≡ tabulate 32 (holdersOf (at holds)) → all ≡ 2 ^ table .rows - 1
-    → foundFrom (plainly (at holds) (at holders) P d t) (minus 64 all A) ≡ filling table P d t A
+    → foundFrom (orderly (at holds) (at holders) P d t) (minus 64 all A) ≡ filling table P d t A
 same-filling table P d t A hr hn hP hd holds holders all eh ek ea =
-    ap (λ (x : ℕ). foundFrom (plainly (at holds) (at holders) P d t) (minus 64 x A)) ea
-    ∙ ap (λ (k : List ℕ). foundFrom (plainly (at holds) (at k) P d t) (present table A)) ek
-    ∙ ap (λ (h : List ℕ). foundFrom (plainly (at h) (at (tabulate 32 (holdersOf (at h)))) P d t) (present table A)) eh
+    ap (λ (x : ℕ). foundFrom (orderly (at holds) (at holders) P d t) (minus 64 x A)) ea
+    ∙ ap (λ (k : List ℕ). foundFrom (orderly (at holds) (at k) P d t) (present table A)) ek
+    ∙ ap (λ (h : List ℕ). foundFrom (orderly (at h) (at (tabulate 32 (holdersOf (at h)))) P d t) (present table A)) eh
     ∙ lent-filling table P d t A hr hn hP hd
 
 named-ruling-requires : tie.Need-named-ruling-requires

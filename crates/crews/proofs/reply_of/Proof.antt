@@ -4,7 +4,7 @@ use borrow.Author.Needs.{needs}
 use Rattle.roster.specs.Replies.{replyWith}
 use Rattle.crews.specs.declared.Ending.{Ending}
 use Rattle.crews.specs.declared.Filled.{Filled}
-use Rattle.crews.specs.Filled.{verdictOf, repliedOf}
+use Rattle.crews.specs.Inner.Replied.{verdictOf, repliedOf}
 use Rattle.crews.proofs.reply_of.Statement.{statement}
 use Rattle.crews.proofs.reply_of.Tie as tie
 

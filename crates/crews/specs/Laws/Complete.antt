@@ -2,7 +2,7 @@
 -- part of T's, and what is left of T's crews is free. T's crew has a row that holds the lowest missing permission; that row is a
 -- candidate, and with it placed the search is on the way still. A crew that covers sooner than T's leaves rows over. Assumes nothing.
 use mathlib.Core.Path.{_≡_, sym, ap, _∙_}
-use mathlib.Core.Bool.{true, false, true≢false}
+use mathlib.Core.Bool.{true, true≢false}
 use mathlib.Core.Logic.{_⊎_, inl, inr, ⊎-elim, _≢_}
 use Prim.Native.Nat.{ℕ, zero, suc, _^_, _≤_, _<_}
 use native.Mathlib.Decide.{ℕ-discrete}
@@ -16,14 +16,14 @@ use Rattle.sets.specs.Sets.{sub-of-has, sub-lt, has-of-sub, missing-all, ones-w
 use Rattle.sets.specs.Laws.Sums.{either}
 use Rattle.roster.specs.Limits.{rowLimit, crewLimit}
 use Rattle.crews.specs.declared.Filling.{Filling}
-use Rattle.crews.specs.Filling.{Work, Outcome, missingOf, placeOf, closeOf, wantedOf, candidates, search, begin}
+use Rattle.crews.specs.Filling.{Work, Outcome, missingOf, placeOf, closeOf, placedOf, wantedOf, candidates, search, begin}
 use Rattle.crews.specs.Laws.Search.{putOf, wanted-missing, placed-is, Tried, among, try-finds, search-done, search-open}
 use Rattle.crews.specs.Laws.Sound.{Shape, Held, shape-put, shape-close, shape-begin, unfinished}
 
 pub same-or-not : (m n : ℕ) → (m ≡ n) ⊎ (m ≢ n)
 same-or-not m n = ⊎-elim (λ e. inl (eqb-true m n e)) (λ e. inr (eqb-false m n e)) (either (eqb m n))
 
--- the rule of 01: any row may begin a crew, and a crew that covers closes
+-- any row may begin a crew, and a crew that covers closes
 pub record Plain (w : Work) : Type 0 where
   pub begins : (f : Filling) (u : ℕ) → w .begins f u ≡ true
   pub closes : (f : Filling) → w .closes f ≡ true
@@ -46,14 +46,14 @@ pub record Solves (w : Work) (F : ℕ) (T : ℕ → ℕ) : Type 0 where
 
 module _ (w : Work) (F : ℕ) (T : ℕ → ℕ) (r : Ready w F) (t : Solves w F T) where
   -- the state is on the way to T, with n placements to go at most
-  record Part (f : Filling) (n : ℕ) : Type 0 where
-    shape : Shape w f
-    free : Sub (f .free) F
-    sub : (u : ℕ) → Has (f .crew) u → Has (T (f .closed)) u
-    left : (j u : ℕ) → f .closed ≤ j → j < w .crews → Has (T j) u → Has (f .free) u ⊎ ((j ≡ f .closed) × Has (f .crew) u)
-    held : (u p : ℕ) → Has (f .crew) u → Has (w .holds u) p → Has (f .held) p
-    lacking : missingOf (w .task) f ≢ 0
-    fuel : ones (f .free) ≤ n
+  pub record Part (f : Filling) (n : ℕ) : Type 0 where
+    pub shape : Shape w f
+    pub free : Sub (f .free) F
+    pub sub : (u : ℕ) → Has (f .crew) u → Has (T (f .closed)) u
+    pub left : (j u : ℕ) → f .closed ≤ j → j < w .crews → Has (T j) u → Has (f .free) u ⊎ ((j ≡ f .closed) × Has (f .crew) u)
+    pub held : (u p : ℕ) → Has (f .crew) u → Has (w .holds u) p → Has (f .held) p
+    pub lacking : missingOf (w .task) f ≢ 0
+    pub fuel : ones (f .free) ≤ n
 
   -- the next row: T's, and a candidate for a crew that is not full
   record Next (f : Filling) : Type 0 where
@@ -189,6 +189,14 @@ module _ (w : Work) (F : ℕ) (T : ℕ → ℕ) (r : Ready w F) (t : Solves w F 
       (λ z. finds n (closeOf (putOf w f row)) (shut f n a row (x .mine) (x .tried)))
       (λ z. finds n (putOf w f row) (kept f n a row (x .mine) (x .tried) (⊎-elim (λ y. y) (λ y. absurd (true≢false (sym (r .plain .closes _) ∙ y))) z)))))
       (same-or-not (f .closed) (w .crews))
+
+  -- each row of T's crew that is a candidate leads to a list
+  pub goes : (n : ℕ) (f : Filling) → Part f (suc n) → (row : ℕ) → Has (T (f .closed)) row → Tried w f row
+      → search n w (placedOf w f row) .found ≡ true
+  goes n f a row mine k =
+      placed-is w f row (λ g. search n w g .found ≡ true)
+      (λ z. finds n (closeOf (putOf w f row)) (shut f n a row mine k))
+      (λ z. finds n (putOf w f row) (kept f n a row mine k (⊎-elim (λ y. y) (λ y. absurd (true≢false (sym (r .plain .closes _) ∙ y))) z)))
 
   -- Where T solves it, the search finds a list.
   pub complete : search (ones F) w (begin F) .found ≡ true

@@ -4,17 +4,17 @@ use mathlib.Core.Path.{_≡_, refl, sym, ap, _∙_, subst}
 use mathlib.Core.Bool.{Bool, true, false, true≢false}
 use mathlib.Core.Logic.{_⊎_, inl, inr, ⊎-elim, _≢_}
 use mathlib.Core.List.{List, [], _∷_, List·Memᴰ, List·Memᴰ·head, List·Memᴰ·tail, List·Memᴰ·cases-cons, List·Memᴰ·not-nil}
-use Prim.Native.Nat.{ℕ, zero, suc, _^_, _≤_, _<_}
+use Prim.Native.Nat.{ℕ, zero, suc, _+_, _^_, _≤_, _<_}
 use native.Mathlib.Omega.{arith}
 use lib.Bits.{bitAnd}
 use lib.Count.{ones, trailingZeros}
 use lib.Dec.{eqb, leb}
 use borrow.Author.Tests.{eq-eqb, ne-eqb, le-leb, lt-leb, eqb-true, eqb-false, leb-true, leb-false}
 use Rattle.sets.specs.Sets.{bit, Has, and-in, in-and, missing-lt, missing-in, trailing-least}
-use Rattle.sets.specs.Members.{members, setOf}
+use Rattle.sets.specs.Members.{members, setOf, Ascends}
 use Rattle.sets.specs.Laws.Sums.{either, toN-true}
 use Rattle.sets.specs.Laws.Build.{setOf-bit}
-use Rattle.sets.specs.Laws.Members.{has-of-mem, mem-of-has, filter-members}
+use Rattle.sets.specs.Laws.Members.{has-of-mem, mem-of-has, members-ascend, filter-members}
 use Rattle.roster.specs.Limits.{rowLimit}
 use Rattle.roster.specs.Replies.{noCrews}
 use Rattle.crews.specs.declared.Filling.{Filling}
@@ -54,6 +54,16 @@ module _ (w : Work) (f : Filling) (row : ℕ) where
       (either (w .closes (putOf w f row))))
       (λ e. let z = eqb-false _ 0 e in subst Q (sym (placed-short z)) (kept (inl z)))
       (either (eqb (missingOf (w .task) (putOf w f row)) 0))
+
+-- from which row on the next crew may begin: the row after the first of this one
+module _ (f : Filling) (row h : ℕ) where
+  pub from-first : f .crew ≡ 0 → placeOf f row h .from ≡ row + 1
+  unfolding placeOf
+  from-first e = ap (λ (b : Bool). elim b [ true ↦ row + 1 | false ↦ f .from ]) (eq-eqb (f .crew) 0 e)
+
+  pub from-next : f .crew ≢ 0 → placeOf f row h .from ≡ f .from
+  unfolding placeOf
+  from-next n = ap (λ (b : Bool). elim b [ true ↦ row + 1 | false ↦ f .from ]) (ne-eqb (f .crew) 0 n)
 
 -- ---- the candidates
 
@@ -112,6 +122,19 @@ module _ (w : Work) (f : Filling) where
       (mem-of-has rowLimit (bitAnd (setOf rowLimit (w .begins f)) all) row (c .below) (in-and (setOf rowLimit (w .begins f)) all row s h)))
       (λ e. rw (going e) (mem-of-has rowLimit all row (c .below) h))
       (either (eqb (f .crew) 0))
+
+  pub candidates-ascend : Ascends 0 (candidates w f)
+  candidates-ascend =
+      ⊎-elim
+      (λ e. rw (begun e) (members-ascend 0 rowLimit (bitAnd (setOf rowLimit (w .begins f)) all)))
+      (λ e. rw (going e) (members-ascend 0 rowLimit all))
+      (either (eqb (f .crew) 0))
+
+-- what is in an ascending list is not below its beginning
+pub ascends-mem : (k : ℕ) (l : List ℕ) → Ascends k l → (c : ℕ) → List·Memᴰ c l → k ≤ c
+ascends-mem k [] a c m = absurd (List·Memᴰ·not-nil m)
+ascends-mem k (x ∷ l) a c m =
+    ⊎-elim (λ e. omega (arith, e, a .0)) (λ i. omega (arith, ascends-mem (suc x) l (a .1) c i, a .0)) (List·Memᴰ·cases-cons m)
 
 -- ---- one candidate after another
 

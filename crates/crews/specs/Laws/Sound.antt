@@ -88,16 +88,16 @@ unfoldable pub crew : Filling → ℕ → ℕ
 crew f j = elim (eqb j (f .closed)) [ true ↦ f .crew | false ↦ getD (f .crews) j 0 ]
 
 module _ (f : Filling) where
-  filled-at : (j : ℕ) → j ≡ f .closed → crew f j ≡ f .crew
+  pub filled-at : (j : ℕ) → j ≡ f .closed → crew f j ≡ f .crew
   unfolding crew
   filled-at j e = rw (eq-eqb j (f .closed) e, crew)
 
-  closed-at : (j : ℕ) → j ≢ f .closed → crew f j ≡ getD (f .crews) j 0
+  pub closed-at : (j : ℕ) → j ≢ f .closed → crew f j ≡ getD (f .crews) j 0
   unfolding crew
   closed-at j n = rw (ne-eqb j (f .closed) n, crew)
 
 -- closing a crew leaves each at its place
-close-at : (w : Work) (f : Filling) → Shape w f → f .closed < crewLimit → (j : ℕ) → crew (closeOf f) j ≡ crew f j
+pub close-at : (w : Work) (f : Filling) → Shape w f → f .closed < crewLimit → (j : ℕ) → crew (closeOf f) j ≡ crew f j
 unfolding closeOf
 close-at w f s l j = go (ℕ-discrete j (f .closed)) (ℕ-discrete j (f .closed + 1))
   where
@@ -150,7 +150,7 @@ module _ (w : Work) (few : w .crews ≤ crewLimit) (F : ℕ) (f : Filling) (row 
           (or-in (f .crew) (2 ^ row) u (sym (ap (λ (x : ℕ). bit x u) (joined j e)) ∙ q))
       go (no n) = inl (sym (ap (λ (x : ℕ). bit x u) (there j n)) ∙ q)
 
-  stays : (j u : ℕ) → Has (crew f j) u → Has (crew (putOf w f row) j) u
+  pub stays : (j u : ℕ) → Has (crew f j) u → Has (crew (putOf w f row) j) u
   stays j u q = go (ℕ-discrete j (f .closed))
     where
       go : Dec (j ≡ f .closed) → Has (crew (putOf w f row) j) u
@@ -227,7 +227,7 @@ state-close w few F f s l z =
         (x .0, ap (λ (c : ℕ). bit c (x .0)) (filled-at f j e) ∙ x .1, x .2)
     go j m (no n) p q = s .whole j (omega arith) p q
 
-state-placed : (w : Work) → w .crews ≤ crewLimit → (F : ℕ) (f : Filling) (row : ℕ) → State w F f → Tried w f row → State w F (placedOf w f row)
+pub state-placed : (w : Work) → w .crews ≤ crewLimit → (F : ℕ) (f : Filling) (row : ℕ) → State w F f → Tried w f row → State w F (placedOf w f row)
 unfolding placeOf
 state-placed w few F f row s k =
     let l = unfinished w f (s .shape) (k .going) in
@@ -235,7 +235,7 @@ state-placed w few F f row s k =
     (λ z. state-close w few F (putOf w f row) (state-put w few F f row s k) l z)
     (λ z. state-put w few F f row s k)
 
-state-begin : (w : Work) (F : ℕ) → State w F (begin F)
+pub state-begin : (w : Work) (F : ℕ) → State w F (begin F)
 state-begin w F =
     record {
       shape = shape-begin w F;

@@ -6,7 +6,7 @@ use Rattle.roster.specs.Limits.{crewLimit}
 use Rattle.roster.specs.declared.Table.{Table}
 use Rattle.roster.specs.declared.Reply.{Reply}
 use Rattle.crews.specs.Laws.Exact.{crews-eight}
-use Rattle.absences.specs.Asked.{PolicyReply}
+use Rattle.absences.specs.Asked.{needPolicy, PolicyReply}
 use Rattle.absences.specs.Replied.{policyReplyOf}
 use Rattle.absences.specs.Laws.Decided.{Case, is-refused, is-undecided, is-yes, is-no, policy-case}
 use Rattle.absences.specs.Laws.Demands.{policy-same, policy-allowed}
@@ -20,9 +20,9 @@ use Rattle.lines.proofs.asked.Tie as tie
 module _ (table : Table) (P s d t : ℕ) (wide : P < 2 ^ 32) (r : Reply) (may : PolicyReply way table P s d t allowance r) where
   -- "Crews are eight sets"
   eight : length (r .crews) ≡ crewLimit
-  eight = go (policy-case way table P s d t wide allowance)
+  eight = go (policy-case (needPolicy way table P s d t) table P s d t wide allowance)
     where
-      go : Case way table P s d t allowance → length (r .crews) ≡ crewLimit
+      go : Case (needPolicy way table P s d t) table P s d t allowance → length (r .crews) ≡ crewLimit
       go (is-refused refusal e) = ap (λ (q : Reply). length (q .crews)) (may .refused refusal e)
       go (is-undecided e l) = ap (λ (q : Reply). length (q .crews)) (may .undecided e l)
       go (is-yes e l h) = ap (λ (q : Reply). length (q .crews)) (may .yes e l h) ∙ crews-eight table P d t 0

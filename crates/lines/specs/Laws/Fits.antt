@@ -22,7 +22,7 @@ use Rattle.crews.specs.Named.{firstList}
 use Rattle.sets.specs.Arrays.{tabulate}
 use Rattle.sets.specs.Laws.Arrays.{at-tabulate, at-past}
 use Rattle.crews.specs.Laws.Exact.{crews-past}
-use Rattle.absences.specs.Asked.{PolicyReply}
+use Rattle.absences.specs.Asked.{needPolicy, PolicyReply}
 use Rattle.absences.specs.Replied.{policyReplyOf}
 use Rattle.absences.specs.Laws.Decided.{Case, is-refused, is-undecided, is-yes, is-no, admitted-fair, policy-case}
 use Rattle.absences.specs.Laws.Demands.{policy-allowed, holds-list}
@@ -157,7 +157,7 @@ module _ (table : Table) (P d t A : ℕ) (rows : table .rows ≤ 64) (list : Cre
 module _ (staff : List ℕ) (fits : (row : ℕ) → getD staff row 0 < 2 ^ 32) (index : ℕ) (early : index < 100) where
   reply-line : (table : Table) (P s d t : ℕ) → P < 2 ^ 32 → length (lineOf staff index (policyReplyOf way table P s d t allowance)) ≤ 726
   unfolding setsText
-  reply-line table P s d t wide = go (policy-case way table P s d t wide allowance)
+  reply-line table P s d t wide = go (policy-case (needPolicy way table P s d t) table P s d t wide allowance)
     where
       r : Reply
       r = policyReplyOf way table P s d t allowance
@@ -168,7 +168,7 @@ module _ (staff : List ℕ) (fits : (row : ℕ) → getD staff row 0 < 2 ^ 32) (
       by : {q : Reply} → r ≡ q → q .units ≤ allowance → length (setsText staff q (q .verdict)) ≤ 704 → length (lineOf staff index r) ≤ 726
       by {q} e u l = subst (λ (x : Reply). length (lineOf staff index x) ≤ 726) (sym e) (line-length staff index q early (omega arith) l)
 
-      go : Case way table P s d t allowance → length (lineOf staff index r) ≤ 726
+      go : Case (needPolicy way table P s d t) table P s d t allowance → length (lineOf staff index r) ≤ 726
       go (is-refused refusal e) = by (may .refused refusal e) (omega arith) (omega arith)
       go (is-undecided e l) = by (may .undecided e l) (omega arith) (omega arith)
       go (is-yes e l h) =

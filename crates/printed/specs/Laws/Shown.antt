@@ -19,7 +19,7 @@ use Rattle.roster.specs.declared.Verdict.the-variants.{Yes, No, Undecided}
 use Rattle.roster.specs.declared.Reply.{Reply}
 use Rattle.crews.specs.Laws.Sound.{Eight, none-at}
 use Rattle.absences.specs.Tried.{Way}
-use Rattle.absences.specs.Asked.{Admits, PolicyReply}
+use Rattle.absences.specs.Asked.{Admits, needPolicy, PolicyReply}
 use Rattle.absences.specs.Laws.Decided.{Case, is-refused, is-undecided, is-yes, is-no, admitted-fair, policy-case}
 use Rattle.absences.specs.Laws.Demands.{Tells, policy-exactly}
 use Rattle.printed.specs.Laws.Lines.{never, Worded, says-yes, says-no, says-undecided}
@@ -70,9 +70,9 @@ module _ (way : Way) (table : Table) (P s d t : ℕ) (wide : P < 2 ^ 32) (allowa
   tells = policy-exactly way table P s d t wide allowance r a
 
   worded : Worded (r .verdict)
-  worded = go (policy-case way table P s d t wide allowance)
+  worded = go (policy-case (needPolicy way table P s d t) table P s d t wide allowance)
     where
-      go : Case way table P s d t allowance → Worded (r .verdict)
+      go : Case (needPolicy way table P s d t) table P s d t allowance → Worded (r .verdict)
       go (is-refused refusal f) = never (cc)
       go (is-undecided f l) = subst Worded (sym (tells .undecided .1 (f, l))) says-undecided
       go (is-yes f l h) = subst Worded (sym (tells .yes .1 (f, l, h))) says-yes
