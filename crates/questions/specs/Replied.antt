@@ -6,7 +6,7 @@ use Rattle.roster.specs.declared.Ruling.the-variants as ruling
 use Rattle.roster.specs.declared.Verdict.the-variants.{Refused}
 use Rattle.roster.specs.declared.Reply.{Reply}
 use Rattle.roster.specs.Replies.{noCrews, replyWith}
-use Rattle.crews.specs.Laws.Allowed.{namedReplyOf}
+use Rattle.crews.specs.Named.{namedReplyOf}
 use Rattle.absences.specs.Tried.{Way}
 use Rattle.absences.specs.Replied.{policyReplyOf}
 use Rattle.accounts.specs.declared.Accounts.{Accounts}

@@ -37,7 +37,7 @@ module _ (a : Accounts) where
 
   -- every row's person is one of the table
   pub every-row : (u : ℕ) → u < rowsOf a → person a u < persons a
-  every-row u l = numbering.person-below f (rowsOf a) u l
+  every-row u l = omega (arith, numbering.person-below f (rowsOf a) u l, numbering.count-le f (rowsOf a))
 
   -- every person of the table has a row, and a first one
   pub every-person : (i : ℕ) → i < persons a → (u : ℕ) × (u < rowsOf a) × (person a u ≡ i) × ((v : ℕ) → person a v ≡ i → u ≤ v)
