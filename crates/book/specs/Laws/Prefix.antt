@@ -142,7 +142,7 @@ module _ (form : Form) where
   few-rows : (c : ℕ) → rowsOf form .outOfRange c ≡ false → c ≤ rowLimit
   few-rows c e = ltb-false rowLimit c e
 
-  near-front : front form ≤ 1
+  pub near-front : front form ≤ 1
   near-front = go form
     where
       go : (f : Form) → front f ≤ 1
@@ -150,7 +150,7 @@ module _ (form : Form) where
       go Persons = omega arith
 
   -- 64 rows of either width
-  near-row : (c : ℕ) → c ≤ rowLimit → width (rowsOf form) * c ≤ 768
+  pub near-row : (c : ℕ) → c ≤ rowLimit → width (rowsOf form) * c ≤ 768
   near-row c h = go form
     where
       go : (f : Form) → width (rowsOf f) * c ≤ 768

@@ -65,7 +65,7 @@ there [] i h = absurd (omega arith)
 there (x ∷ l) zero h = (x, refl)
 there (x ∷ l) (suc i) h = there l i (omega arith)
 
-not-there : {A : Type 0} (l : List A) (i : ℕ) → length l ≤ i → getElem? l i ≡ none
+pub not-there : {A : Type 0} (l : List A) (i : ℕ) → length l ≤ i → getElem? l i ≡ none
 not-there [] i h = refl
 not-there (x ∷ l) zero h = absurd (omega arith)
 not-there (x ∷ l) (suc i) h = not-there l i (omega arith)
