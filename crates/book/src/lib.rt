@@ -109,7 +109,7 @@ impl Fault {
 
 impl Form {
     // Where the permissions start: after the leading byte, if there is one.
-    fn front(self) -> usize
+    pub fn front(self) -> usize
         ensures { λ r. ⌜ r ≡ front self ⌝ }
     {
         match self {

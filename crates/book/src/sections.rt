@@ -95,7 +95,7 @@ pub fn past_listed(listed: usize, set: u32) -> bool
 // ---- one count or one entry
 
 // A row's width, with its person number or without.
-fn row_width(form: Form) -> usize
+pub fn row_width(form: Form) -> usize
     ensures { λ r. ⌜ r ≡ width (rowsOf form) ⌝ }
 {
     match form {

@@ -9,7 +9,9 @@ use Rattle.sets.specs.Sets.{bit}
 use Rattle.sets.specs.Sums.{sumTo, toN}
 use Rattle.sets.specs.Members.{cons?, members, filter, hasb, setOf}
 use Rattle.roster.specs.Meaning.{ahead, rank}
-use Rattle.roster.specs.Refusals.{policyRuling}
+use Rattle.roster.specs.Refusals.{policyRuling, ownRuling}
+use Rattle.roster.specs.declared.Policy.{Policy}
+use Rattle.roster.specs.declared.Ruling.the-variants as ruling
 use Rattle.crews.specs.Filling.{placeOf, closeOf, placedOf, candidates, tryEach, search}
 use Rattle.sets.specs.Arrays.{tabulate}
 use Rattle.absences.specs.Tried.{outweighsb, rowFrom, joins, listed, sizesFrom, weighed}
@@ -41,12 +43,9 @@ use Rattle.lines.specs.Laws.Laid.{linesOver, sheet-laid}
 
 b-policies : Each (PolicyFits 2) policiesB
 unfolding Each policyRuling
-b-policies = (
-  record { task = omega arith; sound = refl },
-  record { task = omega arith; sound = refl },
-  record { task = omega arith; sound = refl },
-  tt,
-)
+b-policies =
+    let fits : (p : Policy) → p .task ≡ 3 → ownRuling p ≡ ruling.Admitted → PolicyFits 2 p = λ p e h. record { task = omega arith; sound = h } in
+    (fits _ refl refl, (fits _ refl refl, (fits _ refl refl, tt)))
 
 b-admitted : Admitted valuesB
 unfolding Each Below Ascends
@@ -55,13 +54,13 @@ b-admitted = record {
   permissions = omega arith;
   rows = omega arith;
   policies = omega arith;
-  codes = (omega arith, omega arith, tt);
-  codesAscend = (omega arith, tt, tt);
-  staff = (omega arith, omega arith, omega arith, omega arith, tt);
-  staffAscends = (omega arith, omega arith, omega arith, tt, tt);
-  persons = (omega arith, omega arith, omega arith, omega arith, tt);
-  own = (refl, refl, refl, refl, tt);
-  holdings = (omega arith, omega arith, omega arith, omega arith, tt);
+  codes = (omega arith, (omega arith, tt));
+  codesAscend = (omega arith, (tt, tt));
+  staff = (omega arith, (omega arith, (omega arith, (omega arith, tt))));
+  staffAscends = (omega arith, (omega arith, (omega arith, (tt, tt))));
+  persons = (omega arith, (omega arith, (omega arith, (omega arith, tt))));
+  own = (refl, (refl, (refl, (refl, tt))));
+  holdings = (omega arith, (omega arith, (omega arith, (omega arith, tt))));
   sound = b-policies;
 }
 
@@ -72,13 +71,13 @@ new-b-admitted = record {
   permissions = omega arith;
   rows = omega arith;
   policies = omega arith;
-  codes = (omega arith, omega arith, tt);
-  codesAscend = (omega arith, tt, tt);
-  staff = (omega arith, omega arith, omega arith, omega arith, tt);
-  staffAscends = (omega arith, omega arith, omega arith, tt, tt);
-  persons = (omega arith, omega arith, omega arith, omega arith, tt);
-  own = (tt, tt, tt, tt, tt);
-  holdings = (omega arith, omega arith, omega arith, omega arith, tt);
+  codes = (omega arith, (omega arith, tt));
+  codesAscend = (omega arith, (tt, tt));
+  staff = (omega arith, (omega arith, (omega arith, (omega arith, tt))));
+  staffAscends = (omega arith, (omega arith, (omega arith, (tt, tt))));
+  persons = (omega arith, (omega arith, (omega arith, (omega arith, tt))));
+  own = (tt, (tt, (tt, (tt, tt))));
+  holdings = (omega arith, (omega arith, (omega arith, (omega arith, tt))));
   sound = b-policies;
 }
 

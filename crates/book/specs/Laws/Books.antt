@@ -1,7 +1,7 @@
 -- The reader and the layout: a book is good exactly if it is the layout of admitted values, which are unique; it is refused exactly with its
 -- first fault; and so every byte string has one reply. Assumes nothing.
 use mathlib.Core.Path.{_≡_, refl, sym, ap, _∙_}
-use mathlib.Core.Logic.{_⊎_, inl, inr, _↔_}
+use mathlib.Core.Logic.{_⊎_, inl, inr, _↔_, _≢_}
 use mathlib.Core.Bool.{Bool, true, false}
 use mathlib.Core.List.{List, [], _∷_, _++_, append-nil}
 use Prim.Native.Nat.{ℕ, _+_, _≤_}
@@ -140,17 +140,17 @@ form-lead book h = go (eqb (getD book 0 0) 200) refl h
     go false e h = refl
     go true e h = first-byte book (eqb-true (getD book 0 0) 200 e) h
 
-by-lead : (form : Form) (np : ℕ) (rest : List ℕ) → np ≤ permissionLimit → formBy (eqb (getD (lead form ++ (np ∷ rest)) 0 0) 200) ≡ form
-by-lead Old np rest few = let n : np ≡ 200 → ⊥ = λ e. omega arith in ap formBy (ne-eqb np 200 n)
-by-lead Persons np rest few = refl
+pub by-lead : (form : Form) (np : ℕ) (rest : List ℕ) → (form ≡ Old → np ≢ 200) → formBy (eqb (getD (lead form ++ (np ∷ rest)) 0 0) 200) ≡ form
+by-lead Old np rest n = ap formBy (ne-eqb np 200 (n refl))
+by-lead Persons np rest n = refl
 
 -- "an old one, which can't start so": the form that was written is read
 pub laid-form : (v : Contents) (book : List ℕ) → LayoutOf v book → formOf book ≡ v .form
 unfolding formOf bytesOf
 laid-form v book l =
-    ap (λ (b : List ℕ). formBy (eqb (getD b 0 0) 200)) (l .bytes) ∙ by-lead (v .form) (length (v .codes)) _ (l .admitted .permissions)
+    ap (λ (b : List ℕ). formBy (eqb (getD b 0 0) 200)) (l .bytes) ∙ by-lead (v .form) (length (v .codes)) _ (λ old many. omega (arith, l .admitted .permissions))
 
-lead-front : (form : Form) → length (lead form) ≡ front form
+pub lead-front : (form : Form) → length (lead form) ≡ front form
 lead-front Old = refl
 lead-front Persons = refl
 

@@ -36,7 +36,7 @@ use Rattle.roster.specs.declared.Policy.{Policy}
 use Rattle.roster.specs.declared.Ruling.{Ruling}
 use Rattle.roster.specs.declared.Ruling.the-variants as ruling
 use Rattle.accounts.specs.declared.Accounts.{Accounts}
-use Rattle.accounts.specs.Persons.{where?, numberOf, persons, merged}
+use Rattle.accounts.specs.Persons.{where?, numberOf as Persons·numberOf, persons, number, merged}
 use Rattle.accounts.specs.Refusals.{accountsRuling}
 use Rattle.accounts.specs.Laws.Merged.{at-numbers}
 use Rattle.questions.specs.Replied.{behind, policyAnswerOf}
@@ -202,6 +202,16 @@ module _ (numbers : List ℕ) (fits : (row : ℕ) → getD numbers row 0 < 2 ^ 3
 
 -- ---- the lines of a book
 
+-- a person's number is that of one of his rows, or 0
+number-fits-32 : (a : Accounts) → ((row : ℕ) → getD (a .persons) row 0 < 2 ^ 32) → (i : ℕ) → number a i < 2 ^ 32
+unfolding Persons·numberOf
+number-fits-32 a h i = go (ltb i (persons a)) (h _)
+  where
+    go : (there : Bool) {x : ℕ} → x < 2 ^ 32 → where? there x < 2 ^ 32
+    go true h = h
+    go false h = omega arith
+
+
 module _ (book : List ℕ) (bytes : Bytes book) where
   person-fits : (at : Place) → rowOr0 (rowFrom book at) .person < 2 ^ 32
   unfolding fieldsAt
@@ -225,12 +235,8 @@ module _ (book : List ℕ) (bytes : Bytes book) where
 
   -- a number that is printed is the person number of some row
   numbers-fit : (i : ℕ) → getD (numbersIn book) i 0 < 2 ^ 32
-  unfolding numbersIn numberOf
-  numbers-fit i = omega (arith, at-numbers (accountsIn book) i, go (ltb i (persons (accountsIn book))) (persons-fit _))
-    where
-      go : (there : Bool) {x : ℕ} → x < 2 ^ 32 → where? there x < 2 ^ 32
-      go true h = h
-      go false h = omega arith
+  unfolding numbersIn
+  numbers-fit i = omega (arith, at-numbers (accountsIn book) i, number-fits-32 (accountsIn book) persons-fit i)
 
   line-fits : (index : ℕ) → index < 100 → length (lineBy book index (policyAt book index)) ≤ 726
   unfolding policyAt lineBy replyTo fieldsAt
