@@ -1,4 +1,4 @@
-// The last field of a line: sets of rows as staff numbers. Each function appends what its definition in specs/Lines.antt says.
+// The last field of a line: sets of persons by their numbers. Each function appends what its definition in specs/Lines.antt says.
 use roster::Policy;
 use roster::Reply;
 use roster::Verdict;
@@ -11,7 +11,7 @@ ghost use Rattle.roster.specs.Limits.{rowLimit, crewLimit};
 ghost use Rattle.text.specs.Text.{Appended, space, dash, decimal, marked};
 ghost use Rattle.lines.specs.Lines.{names, betweenMembers, setText, filled, betweenCrews, crewsText, setsText};
 
-// A row's staff number after a mark.
+// A person's number after a mark.
 fn member(out: &mut [u8], at: usize, numbers: &[u32; Policy::ROWS], mark: u8, row: usize) -> usize
     requires { ⌜ row < rowLimit ⌝ }
     ensures { λ r. ⌜ Appended (mark ∷ decimal (getD (now (numbers .entry)) row 0)) (now (out .entry)) at (now (out .exit)) r ⌝ }
@@ -27,7 +27,7 @@ fn without(set: u64, row: u32) -> u64
     set ^ (1u64 << row)
 }
 
-// The staff numbers of a set's rows in row order, the first after `mark`, the others after commas; nothing of an empty set.
+// The numbers of a set's persons in their order, the first after `mark`, the others after commas; nothing of an empty set.
 fn members(out: &mut [u8], at: usize, numbers: &[u32; Policy::ROWS], mark: u8, set: u64) -> usize
     ensures { λ r. ⌜ Appended (marked mark betweenMembers (names (now (numbers .entry)) set)) (now (out .entry)) at (now (out .exit)) r ⌝ }
 {

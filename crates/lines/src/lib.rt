@@ -44,7 +44,13 @@ fn verdict_word(out: &mut [u8], at: usize, verdict: Verdict) -> usize
 }
 
 // The line of a policy's reply.
-fn line(out: &mut [u8], at: usize, numbers: &[u32; Policy::ROWS], index: usize, reply: Reply) -> usize
+fn line(
+    out: &mut [u8],
+    at: usize,
+    numbers: &[u32; Policy::ROWS],
+    index: usize,
+    reply: Reply,
+) -> usize
     requires { ⌜ length (reply .crews) ≡ crewLimit ⌝ }
     ensures { λ r. ⌜ Appended (lineOf (now (numbers .entry)) index reply) (now (out .entry)) at (now (out .exit)) r ⌝ }
 {

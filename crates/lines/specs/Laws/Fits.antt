@@ -211,7 +211,6 @@ number-fits-32 a h i = go (ltb i (persons a)) (h _)
     go true h = h
     go false h = omega arith
 
-
 module _ (book : List ℕ) (bytes : Bytes book) where
   person-fits : (at : Place) → rowOr0 (rowFrom book at) .person < 2 ^ 32
   unfolding fieldsAt
