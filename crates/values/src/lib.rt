@@ -126,7 +126,8 @@ pub fn write(values: Values, out: &mut [u8]) -> Wrote
     if out.len() < length_of(values) {
         return Wrote::Refused(Unwritten::Room, 0);
     }
-    let codes = put_lead(out, values.form);
+    let form = values.form;
+    let codes = put_lead(out, form);
     let rows = put_section(out, codes, values, Section::Permissions);
     let policies = put_section(out, rows, values, Section::Rows);
     Wrote::Written(put_section(out, policies, values, Section::Policies))

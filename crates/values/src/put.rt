@@ -86,9 +86,10 @@ fn put_entry(out: &mut [u8], at: usize, values: Values, section: Section, i: usi
     requires { ⌜ i < limitIn section ⌝ }
     ensures { λ r. ⌜ Appended (entryBytes values section i) (now (out .entry)) at (now (out .exit)) r ⌝ }
 {
+    let form = values.form;
     match section {
         Section::Permissions => put_two(out, at, text::wide(code_in(values, i))),
-        Section::Rows => put_row(out, at, values.form, row_in(values, i)),
+        Section::Rows => put_row(out, at, form, row_in(values, i)),
         Section::Policies => put_policy(out, at, policy_in(values, i)),
     }
 }
@@ -113,7 +114,8 @@ pub(crate) fn length_of(values: Values) -> usize
     requires { ⌜ Counted values ⌝ }
     ensures { λ r. ⌜ r ≡ length (bytesOf (contentsFor values)) ⌝ }
 {
-    let wide = row_width(values.form);
-    let front = values.form.front();
+    let form = values.form;
+    let wide = row_width(form);
+    let front = form.front();
     front + 3 + 2 * values.code_count + wide * values.row_count + 7 * values.policy_count
 }

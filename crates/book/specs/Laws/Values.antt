@@ -37,7 +37,7 @@ unfolding fieldsAt
 row-codec false = record { own = Own false; back = old-back; read = λ book at. refl; forth = λ book at. refl }
 row-codec true = record { own = Own true; back = λ x o. refl; read = λ book at. tt; forth = λ book at. refl }
 
-pub policy-codec : Codec policies policyFields
+unfoldable pub policy-codec : Codec policies policyFields
 unfolding fieldsAt
 policy-codec = record { own = λ x. Unit {0}; back = λ x o. refl; read = λ book at. tt; forth = λ book at. refl }
 

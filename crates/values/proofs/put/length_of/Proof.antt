@@ -29,3 +29,50 @@ small c =
       s .pre Permissions,
       s .pre Policies,
     )
+
+add-result : tie.Need-add-result
+add-result c = omega (arith, small c .0)
+
+mul-result : tie.Need-mul-result
+mul-result c = omega (arith, small (c .before) .2)
+
+add-result-2 : tie.Need-add-result-2
+add-result-2 c = omega (arith, small (c .before) .0, small (c .before) .2)
+
+mul-result-2 : tie.Need-mul-result-2
+mul-result-2 c = omega (arith, small (c .before .before) .1)
+
+add-result-3 : tie.Need-add-result-3
+add-result-3 c = let h = small (c .before .before) in omega (arith, h .0, h .1, h .2)
+
+mul-result-3 : tie.Need-mul-result-3
+mul-result-3 c = omega (arith, small (c .before .before .before) .3)
+
+add-result-4 : tie.Need-add-result-4
+add-result-4 c = let h = small (c .before .before .before) in omega (arith, h .0, h .1, h .2, h .3)
+
+-- the length by what was asked
+by-parts : {f f′ w w′ : ℕ} (codes rows policies : ℕ) → f ≡ f′ → w ≡ w′
+    → f + 3 + 2 * codes + w * rows + 7 * policies ≡ f′ + 3 + 2 * codes + w′ * rows + 7 * policies
+by-parts codes rows policies e h = rw (e, h)
+
+returns : tie.Need-returns
+returns c =
+    let f = c .before .before .before in
+    let v = f .before .before .args .values in
+    by-parts (v .«code_count») (v .«row_count») (v .«policy_count») (f .front .ensures) (f .before .row-width .ensures) ∙ book-length v
+
+pub length-of-spec : {M : Type 1} → statement M
+length-of-spec =
+    tie.close
+    (tie.spec
+    row-width-requires
+    front-requires
+    add-result
+    mul-result
+    add-result-2
+    mul-result-2
+    add-result-3
+    mul-result-3
+    add-result-4
+    returns)

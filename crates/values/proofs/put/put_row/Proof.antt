@@ -37,8 +37,8 @@ same-length c = search needs
 returns : tie.Need-returns
 returns c =
     let last = c .before .before in
-    let named = last .before .before .before .before in
-    let first = named .before .before .before in
+    let named = last .before .before .before .before .before in
+    let first = named .before .before .before .before in
     let a = first .before .before .before .before .args in
     read-as (parts (hasPersons (a .form)) (a .row))
     (read-as (ap (littleEndian 4) (first .before .wide .ensures)) (first .put-four .ensures)
