@@ -1,6 +1,6 @@
 -- The demands over accounts, for all replies that the contracts allow: what a reply tells, with no word of merging but in the need and in the
 -- ranks that order blockers; and that both searches, and larger allowances, tell the same. Assumes nothing.
-use mathlib.Core.Path.{_≡_, refl, sym, ap, _∙_}
+use mathlib.Core.Path.{_≡_, refl, sym, ap, _∙_, subst}
 use mathlib.Core.Logic.{inl, inr, ⊎-elim, _↔_, _≢_}
 use mathlib.Core.Bool.{Bool, true, false}
 use mathlib.Core.List.{List, map}
@@ -27,10 +27,10 @@ use Rattle.absences.specs.Asked.{needPolicy}
 use Rattle.absences.specs.Laws.Demands as policy
 use Rattle.accounts.specs.declared.Accounts.{Accounts}
 use Rattle.accounts.specs.Persons.{persons, merged}
-use Rattle.accounts.specs.Meaning.{PersonCrews, PersonsBlock, FirstPersonsBlock, accountsOf, AccountCrews, AccountsHold, SmallestBlock}
+use Rattle.accounts.specs.Meaning.{PersonCrews, PersonsBlock, FirstPersonsBlock, accountsOf, AccountSet, AccountCrews, AccountsHold, SmallestBlock}
 use Rattle.accounts.specs.Laws.Rulings.{many-refused, ManyOrFew, many-or-few}
 use Rattle.accounts.specs.Laws.Merged.{persons-few, crews-of-persons, blocks-of-persons, holds-of-persons, first-of-persons}
-use Rattle.accounts.specs.Laws.Accounts.{nobody, to-accounts, accounts-hold, first-smallest}
+use Rattle.accounts.specs.Laws.Accounts.{personsOf, persons-lt, nobody, person-set, to-accounts, accounts-hold, first-smallest}
 use Rattle.questions.specs.Asked.{PolicyAsked, NamedAsked}
 use Rattle.questions.specs.Laws.Behind.{behind-both, behind-same}
 
@@ -116,6 +116,18 @@ module _ (way : Way) (a : Accounts) (P s d t allowance : ℕ) (wide : P < 2 ^ 32
       go : ManyOrFew a → Tells way a P s d t allowance r
       go (inl (l, e)) = many-tell l (k .refused Rows e)
       go (inr (l, e)) = few-tell l (policy.policy-exactly way (merged a) P s d t wide allowance r (k .admitted e))
+
+  -- "yes" in so many words: whichever accounts of at most s persons are away, there are crews
+  pub yes-with-crews : r .verdict ≡ Yes → (away : ℕ) → AccountSet a s away → (crews : List ℕ) × AccountCrews a P d t away crews
+  yes-with-crews v away w = go (many-or-few a)
+    where
+      go : ManyOrFew a → (crews : List ℕ) × AccountCrews a P d t away crews
+      go (inl (l, e)) = let u = ap Reply.verdict (k .refused Rows e) in never (cc)
+      go (inr (l, e)) =
+          let set = person-set a s away w in
+          let list = policy.policy-yes way (merged a) P s d t wide allowance r (k .admitted e) .0 v .2 (personsOf a away) (record { rows = persons-lt a away; few = omega (arith, set .1, w .few) }) in
+          let crews = to-accounts a P d t (personsOf a away) (list .0) (crews-of-persons a P d t (personsOf a away) (list .0) .0 (list .1)) in
+          (map (accountsOf a) (list .0), subst (λ (x : ℕ). AccountCrews a P d t x (map (accountsOf a) (list .0))) (set .0) crews)
 
   -- "refused 1" speaks of rows, however few the persons are
   pub policy-refused-rows : (r .verdict ≡ Refused Rows) ↔ (rowLimit < a .rows)
