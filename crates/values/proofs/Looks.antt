@@ -27,7 +27,7 @@ use Rattle.book.specs.declared.Section.the-variants.{Permissions, Rows, Policie
 use Rattle.values.specs.Values.{rowFor, contentsFor}
 use Rattle.values.specs.Writing.{valueLooks, sectionIn, firstOf, faultIn}
 use Rattle.values.specs.Laws.First.{orElse, first-append, neither, none-head}
-use Rattle.values.specs.Inner.Looks.{limitIn, Counted, codeIn, rowIn, policyIn, priorTo, leadOf, staysAt, lookWith, sectionLooks, told}
+use Rattle.values.specs.Inner.Looks.{limitIn, countOf, Counted, codeIn, rowIn, policyIn, priorTo, leadOf, staysAt, lookWith, sectionLooks, told}
 use Rattle.values.specs.declared.Values.{Values}
 
 -- ---- one entry
@@ -150,13 +150,13 @@ row-look Persons listed f (suc i) = refl
 pub fault-by-sections : (v : Values) → faultIn (contentsFor v) ≡ firstOf (allLooks v)
 unfolding contentsFor
 fault-by-sections v =
-    let listed = length-tabulate (v .«code_count») (codeIn v) in
+    let listed = length-tabulate (countOf v Permissions) (codeIn v) in
     let n = v .«code_count» in
-    let bare = ap (tabulate (v .«row_count»)) (fun-ext (row-look (v .form) n (rowIn v))) in
+    let bare = ap (tabulate (countOf v Rows)) (fun-ext (row-look (v .form) n (rowIn v))) in
     ap firstOf
-    (ap₂ (λ (l m : List Look). l ++ m) (section-looks codes 0 0 (v .«code_count») (codeIn v) refl)
-    (ap₂ (λ (l m : List Look). l ++ m) (section-looks (rowsOf (v .form)) _ n (v .«row_count») (λ i. rowFor (v .form) (rowIn v i)) listed ∙ ap (λ (l : List Look). countLookIn Rows (v .«row_count») ∷ l) bare)
-    (section-looks policies _ (v .«code_count») (v .«policy_count») (policyIn v) listed)))
+    (ap₂ (λ (l m : List Look). l ++ m) (section-looks codes 0 0 (countOf v Permissions) (codeIn v) refl)
+    (ap₂ (λ (l m : List Look). l ++ m) (section-looks (rowsOf (v .form)) _ n (countOf v Rows) (λ i. rowFor (v .form) (rowIn v i)) listed ∙ ap (λ (l : List Look). countLookIn Rows (countOf v Rows) ∷ l) bare)
+    (section-looks policies _ (v .«code_count») (countOf v Policies) (policyIn v) listed)))
 
 -- a count that is sound is within its limit
 pub count-within : (section : Section) (n : ℕ) → countLookIn section n ≡ Sound → n ≤ limitIn section

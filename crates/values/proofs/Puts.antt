@@ -74,11 +74,11 @@ unfolding bytesOf contentsFor
 bytes-by-sections v =
     let persons = hasPersons (v .form) in
     let bare = fun-ext (λ i. ap (fieldBytes (rowWidths persons)) (fields-for (v .form) (rowIn v i))) in
-    let rows = section-order (rowWidths persons) (rowFields persons) (λ i. rowFor (v .form) (rowIn v i)) (v .«row_count»)
-    ∙ ap (λ (bytes : ℕ → List ℕ). v .«row_count» ∷ inOrder bytes 0 (v .«row_count»)) bare in
+    let rows = section-order (rowWidths persons) (rowFields persons) (λ i. rowFor (v .form) (rowIn v i)) (countOf v Rows)
+    ∙ ap (λ (bytes : ℕ → List ℕ). countOf v Rows ∷ inOrder bytes 0 (countOf v Rows)) bare in
     sym (ap (λ (l : List ℕ). lead (v .form) ++ l)
-    (ap₂ (λ (a b : List ℕ). a ++ b) (section-order codeWidths codeFields (codeIn v) (v .«code_count»))
-    (ap₂ (λ (a b : List ℕ). a ++ b) rows (section-order policyWidths policyFields (policyIn v) (v .«policy_count»)))))
+    (ap₂ (λ (a b : List ℕ). a ++ b) (section-order codeWidths codeFields (codeIn v) (countOf v Permissions))
+    (ap₂ (λ (a b : List ℕ). a ++ b) rows (section-order policyWidths policyFields (policyIn v) (countOf v Policies)))))
 
 -- ---- how long
 
@@ -104,7 +104,7 @@ section-length : (v : Values) (section : Section) → length (sectionBytes v sec
 section-length v section = omega (arith, order-length (entryBytes v section) (widthIn (v .form) section) 0 (countOf v section) (entry-length v section))
 
 pub book-length : (v : Values)
-    → front (v .form) + 3 + 2 * v .«code_count» + width (rowsOf (v .form)) * v .«row_count» + 7 * v .«policy_count» ≡ length (bytesOf (contentsFor v))
+    → front (v .form) + 3 + 2 * countOf v Permissions + width (rowsOf (v .form)) * countOf v Rows + 7 * countOf v Policies ≡ length (bytesOf (contentsFor v))
 book-length v =
     let codes = sectionBytes v Permissions in
     let rows = sectionBytes v Rows in

@@ -115,7 +115,10 @@ pub(crate) fn length_of(values: Values) -> usize
     ensures { λ r. ⌜ r ≡ length (bytesOf (contentsFor values)) ⌝ }
 {
     let form = values.form;
-    let wide = row_width(form);
     let front = form.front();
-    front + 3 + 2 * values.code_count + wide * values.row_count + 7 * values.policy_count
+    let wide = row_width(form);
+    let codes = count_of(values, Section::Permissions);
+    let rows = count_of(values, Section::Rows);
+    let policies = count_of(values, Section::Policies);
+    front + 3 + 2 * codes + wide * rows + 7 * policies
 }

@@ -3,6 +3,7 @@ use borrow.Author.Needs.{needs}
 use mathlib.Core.Path.{sym, subst}
 use mathlib.Core.List.{List}
 use Prim.Native.Nat.{ℕ, _-_}
+use native.Mathlib.Omega.{arith}
 use lib.ListN.{replicate}
 use Rattle.sets.specs.Laws.Arrays.{Passed, passed-none, passed-stored, passed-all}
 use Rattle.roster.specs.declared.Policy.{Policy}
@@ -49,13 +50,13 @@ loop-again : tie.Need-loop-again Inv-loop μ-loop
 loop-again c =
     let l = c .before .before in
     let a = l .before .before .before .args in
-    passed-stored unasked 32 (policyFrom (a .book .now) (a .start)) (l .loop .i) (c .policy-or .result) (l .loop .policies) (l .loop .inv) (c .before .loop-test .taken) (c .policy-or .ensures)
+    passed-stored unasked 32 (policyFrom (a .book .now) (a .start)) (l .loop .i) (c .policy-or .result) (l .loop .policies) (l .loop .inv) (omega (arith, c .before .loop-test .taken)) (c .policy-or .ensures)
 
 returns : tie.Need-returns Inv-loop μ-loop
 returns c =
     let l = c .before in
     let a = l .before .before .before .args in
-    passed-all unasked 32 (policyFrom (a .book .now) (a .start)) (l .loop .i) (l .loop .policies) (l .loop .inv) (c .loop-test .left)
+    passed-all unasked 32 (policyFrom (a .book .now) (a .start)) (l .loop .i) (l .loop .policies) (l .loop .inv) (omega (arith, c .loop-test .left))
 
 pub all-policies-spec : {M : Type 1} → statement M
 all-policies-spec =

@@ -1,8 +1,8 @@
 -- The two halves one after the other. Assumes nothing.
 use borrow.Author.Needs.{needs}
 use mathlib.Core.Path.{_≡_, refl}
-use mathlib.Core.List.{List, [], _∷_, _++_}
-use Prim.Native.Nat.{ℕ, _/_, _%_}
+use mathlib.Core.List.{_++_}
+use Prim.Native.Nat.{ℕ, _/_}
 use Rattle.book.specs.Layout.{littleEndian}
 use Rattle.text.specs.Laws.Appends.{_then_, read-as}
 use Rattle.values.proofs.put.put_four.Statement.{statement}
