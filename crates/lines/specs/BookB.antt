@@ -30,7 +30,7 @@ use Rattle.book.specs.Reading.{
   firstFault,
   readOf,
 }
-use Rattle.book.specs.Layout.{Each, Below, Ascends, PolicyFits, Admitted, LayoutOf}
+use Rattle.book.specs.Layout.{Each, Below, Ascends, PolicyFits, Admitted}
 use Rattle.book.specs.Parts.{startsIn, policyCount}
 use Rattle.book.specs.Promises.{accountsFor}
 use Rattle.book.specs.Cases.{policiesB, valuesB, bookB, b-bytes, valuesNewB, newB, new-b-bytes}

@@ -10,7 +10,7 @@ use Rattle.roster.specs.declared.Ruling.{Ruling}
 use Rattle.absences.specs.Replied.{policyReplyOf}
 use Rattle.accounts.specs.declared.Accounts.{Accounts}
 use Rattle.accounts.specs.declared.People.{People}
-use Rattle.accounts.specs.Persons.{merged, peopleOf}
+use Rattle.accounts.specs.Persons.{peopleOf}
 use Rattle.accounts.specs.Laws.Rulings.{few-admitted}
 use Rattle.questions.specs.Replied.{behind, policyAnswerOf}
 use Rattle.book.specs.Layout.{Contents, LayoutOf}

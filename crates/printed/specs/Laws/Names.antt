@@ -11,7 +11,7 @@ use Rattle.sets.specs.Members.{members}
 use Rattle.sets.specs.Laws.Members.{has-of-mem}
 use Rattle.roster.specs.Limits.{rowLimit}
 use Rattle.accounts.specs.declared.Accounts.{Accounts}
-use Rattle.accounts.specs.Persons.{rowsOf, person, persons, number, peopleOf}
+use Rattle.accounts.specs.Persons.{rowsOf, person, persons, number}
 use Rattle.accounts.specs.Laws.Merged.{same-person, every-person, at-numbers, numbered, own-person}
 use Rattle.book.specs.declared.Row.{Row}
 use Rattle.book.specs.declared.Form.the-variants.{Old}

@@ -1,8 +1,9 @@
 -- The sheet of an old book moves in nothing: each line is that of the reply over the table of its rows, with the staff numbers by row, as it was
--- before rows had person numbers. Assumes nothing.
-use mathlib.Core.Path.{_≡_, sym, ap, ap₂, _∙_}
+-- before rows had person numbers. And its values written as a new book have the same sheet. Assumes nothing.
+use mathlib.Core.Path.{_≡_, refl, sym, ap, ap₂, _∙_}
+use mathlib.Core.Bool.{true}
 use mathlib.Core.Option.{Option, some}
-use mathlib.Core.List.{List}
+use mathlib.Core.List.{List, [], _∷_}
 use Prim.Native.Nat.{ℕ, _≤_, _<_}
 use native.Mathlib.Decide.{decLt}
 use native.Mathlib.Omega.{arith}
@@ -15,21 +16,21 @@ use Rattle.roster.specs.declared.Reply.{Reply}
 use Rattle.absences.specs.Tried.{skipping}
 use Rattle.absences.specs.Replied.{policyReplyOf}
 use Rattle.absences.specs.Laws.Demands.{policy-allowed}
-use Rattle.accounts.specs.Persons.{rowsOf, number, peopleOf}
+use Rattle.accounts.specs.Persons.{number}
 use Rattle.accounts.specs.Meaning.{rowByRow}
 use Rattle.accounts.specs.Laws.Merged.{not-numbered, own-persons}
 use Rattle.questions.specs.Laws.Replies.{policy-answered, policy-as-before}
-use Rattle.book.specs.Layout.{Contents, LayoutOf}
+use Rattle.book.specs.Layout.{Contents, bytesOf, Own, Each, Admitted, LayoutOf}
 use Rattle.book.specs.Parts.{rowOr0}
 use Rattle.book.specs.Promises.{rowBy, accountsFor}
 use Rattle.book.specs.Laws.Old.{old-different}
 use Rattle.book.specs.Laws.Parts.{layout-parts}
 use Rattle.book.specs.Laws.View.{there, not-there}
 use Rattle.book.specs.declared.Row.{Row}
-use Rattle.book.specs.declared.Form.the-variants.{Old}
+use Rattle.book.specs.declared.Form.the-variants.{Old, Persons}
 use Rattle.text.specs.Cut.{linesOf}
 use Rattle.lines.specs.Sheet.{allowance, numbersIn, replyTo, sheetOf}
-use Rattle.lines.specs.Laws.Laid.{numbers-laid}
+use Rattle.lines.specs.Laws.Laid.{numbers-laid, sheet-laid}
 use Rattle.printed.specs.Words.{PolicyOf}
 use Rattle.printed.specs.Laws.Asked.{task-wide}
 use Rattle.printed.specs.Laws.Lines.{lineText}
@@ -81,3 +82,38 @@ module _ (book : List ℕ) (i : ℕ) (v : Contents) (p : Policy) (o : PolicyOf b
   old-line =
       sheet-line book i v p o
       ∙ ap₂ (λ (numbers : List ℕ) (r : Reply). some (lineText numbers i r)) (old-numbers v book (o .layout) old) old-reply
+
+-- ---- the values of an old book, written as a new one
+
+abbrev pub asNew : Contents → Contents
+asNew v = record { form = Persons; codes = v .codes; rows = v .rows; policies = v .policies }
+
+any : (l : List Row) → Each (Own true) l
+unfolding Each
+any [] = tt
+any (x ∷ l) = (tt, any l)
+
+-- are those of a good book
+pub upgraded : (v : Contents) → Admitted v → LayoutOf (asNew v) (bytesOf (asNew v))
+upgraded v a = record {
+  admitted = record {
+    some = a .some;
+    permissions = a .permissions;
+    rows = a .rows;
+    policies = a .policies;
+    codes = a .codes;
+    codesAscend = a .codesAscend;
+    staff = a .staff;
+    staffAscends = a .staffAscends;
+    persons = a .persons;
+    own = any (v .rows);
+    holdings = a .holdings;
+    sound = a .sound;
+  };
+  bytes = refl;
+}
+
+-- whose sheet is the same: a row's person number stands for what it had before, its staff number
+pub upgraded-sheet : (v : Contents) → Admitted v → sheetOf (bytesOf (asNew v)) ≡ sheetOf (bytesOf v)
+upgraded-sheet v a =
+    sheet-laid (asNew v) (bytesOf (asNew v)) (upgraded v a) ∙ sym (sheet-laid v (bytesOf v) (record { admitted = a; bytes = refl }))

@@ -3,7 +3,7 @@
 use borrow.Author.Needs.{needs}
 use mathlib.Core.Path.{_≡_, refl, sym, ap, _∙_}
 use mathlib.Core.Option.{some, none}
-use mathlib.Core.List.{List, _++_, append-assoc}
+use mathlib.Core.List.{List, _++_}
 use Prim.Native.Nat.{ℕ, _+_, _≤_, _<_}
 use native.Mathlib.Omega.{arith}
 use lib.ListN.{length, drop}
@@ -16,7 +16,6 @@ use Rattle.book.specs.declared.Section.the-variants.{Permissions, Rows, Policie
 use Rattle.values.specs.Values.{contentsFor}
 use Rattle.values.specs.Writing.{faultIn, Writes}
 use Rattle.values.specs.Inner.Looks.{Counted}
-use Rattle.values.specs.Inner.Puts.{sectionBytes}
 use Rattle.values.specs.declared.Unwritten.the-variants as unwritten
 use Rattle.values.specs.declared.Wrote.the-variants.{Written, Refused}
 use Rattle.values.proofs.Looks.{told-faulty, told-sound, sound-counted}
