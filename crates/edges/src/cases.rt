@@ -90,8 +90,8 @@ fn came_of_part(text: &[u8], at: usize) -> Line {
     if is_word(text, at, b"row") {
         return parts::row(text, asked);
     }
-    if is_word(text, at, b"table") {
-        return parts::table(text, at);
+    if is_word(text, at, b"accounts") {
+        return parts::accounts(text, at);
     }
     if is_word(text, at, b"policies") {
         return parts::policy_count(text, at);
