@@ -11,9 +11,8 @@ use Rattle.sets.specs.Members.{cons?, members, filter, hasb, setOf}
 use Rattle.sets.specs.Arrays.{tabulate}
 use Rattle.roster.specs.declared.Refusal.the-variants.{Rows, Absence}
 use Rattle.roster.specs.declared.Reply.{Reply}
-use Rattle.roster.specs.Meaning.{ahead, rank}
+use Rattle.roster.specs.Meaning.{outweighsb, ahead, rank}
 use Rattle.roster.specs.Refusals.{policyRuling, namedRuling}
-use Rattle.roster.specs.Laws.Rank.{outweighsb}
 use Rattle.crews.specs.Filling.{placeOf, closeOf, placedOf, candidates, tryEach, search}
 use Rattle.absences.specs.Tried.{rowFrom, Way, full, skipping, joins, listed, sizesFrom, weighed}
 use Rattle.absences.specs.Replied.{policyReplyOf}
