@@ -24,6 +24,7 @@ use Rattle.crews.specs.Named.{needNamed, NamedReply}
 use Rattle.crews.specs.Laws.Named as named
 use Rattle.absences.specs.Tried.{Way, full, skipping}
 use Rattle.absences.specs.Asked.{needPolicy}
+use Rattle.absences.specs.Asked as tables
 use Rattle.absences.specs.Laws.Demands as policy
 use Rattle.accounts.specs.declared.Accounts.{Accounts}
 use Rattle.accounts.specs.Persons.{persons, merged}
@@ -82,7 +83,7 @@ module _ (way : Way) (a : Accounts) (P s d t allowance : ℕ) (wide : P < 2 ^ 32
       }
 
   -- else what is told of the merged table
-  few-tell : a .rows ≤ rowLimit → policy.Tells way (merged a) P s d t allowance r → Tells way a P s d t allowance r
+  few-tell : a .rows ≤ rowLimit → tables.Tells way (merged a) P s d t allowance r → Tells way a P s d t allowance r
   few-tell l tells =
       let ruled = policy-few (persons a) (a .rows) P s d t (persons-few a) l in
       let hold = holds-of-persons a P s d t in
