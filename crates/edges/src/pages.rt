@@ -107,16 +107,32 @@ fn with_entry(values: Values, text: &[u8], at: usize) -> Values {
     with_count(values, text, at)
 }
 
+// The values in this form.
+fn in_form(values: Values, form: Form) -> Values {
+    let codes = values.codes;
+    let rows = values.rows;
+    let policies = values.policies;
+    Values {
+        form: form,
+        codes: codes,
+        code_count: values.code_count,
+        rows: rows,
+        row_count: values.row_count,
+        policies: policies,
+        policy_count: values.policy_count,
+    }
+}
+
 // The values with the form or the count that stands here.
 fn with_count(values: Values, text: &[u8], at: usize) -> Values {
-    let mut next = values;
-    let count = argument(text, at, 1) as usize;
     if is_word(text, at, b"old") {
-        next.form = Form::Old;
+        return in_form(values, Form::Old);
     }
     if is_word(text, at, b"persons") {
-        next.form = Form::Persons;
+        return in_form(values, Form::Persons);
     }
+    let mut next = values;
+    let count = argument(text, at, 1) as usize;
     if is_word(text, at, b"codes") {
         next.code_count = count;
     }
