@@ -1,7 +1,7 @@
 -- Laws of the looks and of the first fault. Assumes nothing.
 use mathlib.Core.Path.{_≡_, refl, sym, ap, _∙_}
 use mathlib.Core.Bool.{Bool, false}
-use mathlib.Core.Option.{Option}
+use mathlib.Core.Option.{Option, some}
 use mathlib.Core.List.{List, [], _∷_, _++_}
 use Prim.Native.Nat.{ℕ, zero, suc, _+_, _-_, _*_, _≤_, _<_}
 use native.Mathlib.Nat.{mul-suc}
@@ -9,9 +9,11 @@ use native.Mathlib.Omega.{arith}
 use lib.Dec.{leb, ltb}
 use lib.ListN.{length}
 use borrow.Author.Tests.{ltb-false, lt-ltb, le-ltb}
-use Rattle.book.specs.Reading.{Found, number, fieldsAt, entryAt, prior, notAbove, staffOf, wholeThen, countLook, entryLook, inTurn, countAt, sectionLooks, past, endLook, firstFault, rows}
+use Rattle.book.specs.Reading.{Found, number, fieldsAt, entryAt, prior, notAbove, staffOf, wholeThen, countLook, entryLook, inTurn, countAt, sectionLooks, past, endLook, firstFault, rowsOf}
 use Rattle.book.specs.Laws.First.{not-faulty, first-append}
 use Rattle.book.specs.Steps.{leadIn, staysIn, outIn, countIn, lookIn, widthIn, stepFrom, pastEntry, startAt, looksIn, pastIn, stepIn}
+use Rattle.book.specs.declared.Form.{Form}
+use Rattle.book.specs.declared.Form.the-variants.{Old, Persons}
 use Rattle.book.specs.declared.Fault.{Fault}
 use Rattle.book.specs.declared.Section.{Section}
 use Rattle.book.specs.declared.Section.the-variants.{Permissions, Rows, Policies}
@@ -44,15 +46,21 @@ pub stays-by : {x y : ℕ} (section : Section) (book : List ℕ) (c : Cursor) (l
 stays-by section book c last e hx hy =
     rw (hx, hy) (sym (ap (λ (b : Before). notAbove (prior (leadIn section book) b) (leadIn section book (c .at))) e))
 
--- the staff number of the row before is the number that it starts with
-staff-before : (book : List ℕ) (before : Before) → prior (number 4 book) before ≡ staffOf (prior (entryAt rows book) before)
+-- a row's staff number is the number that it starts with, in every form
+staff-here : (form : Form) (book : List ℕ) (at : ℕ) → number 4 book at ≡ entryAt (rowsOf form) book at .staff
 unfolding fieldsAt
-staff-before book Nothing = refl
-staff-before book (Entry at) = refl
+staff-here Old book at = refl
+staff-here Persons book at = refl
 
-pub staff-stays : (book : List ℕ) (c : Cursor)
-    → staysIn Rows book c ≡ notAbove (staffOf (prior (entryAt rows book) (c .before))) (number 4 book (c .at))
-staff-stays book c = ap (λ (o : Option ℕ). notAbove o (number 4 book (c .at))) (staff-before book (c .before))
+staff-before : (form : Form) (book : List ℕ) (before : Before) → prior (number 4 book) before ≡ staffOf (prior (entryAt (rowsOf form) book) before)
+staff-before form book Nothing = refl
+staff-before form book (Entry at) = ap some (staff-here form book at)
+
+pub staff-stays : (form : Form) (book : List ℕ) (c : Cursor)
+    → staysIn Rows book c ≡ notAbove (staffOf (prior (entryAt (rowsOf form) book) (c .before))) (entryAt (rowsOf form) book (c .at) .staff)
+staff-stays form book c =
+    ap (λ (o : Option ℕ). notAbove o (number 4 book (c .at))) (staff-before form book (c .before))
+    ∙ ap (notAbove (staffOf (prior (entryAt (rowsOf form) book) (c .before)))) (staff-here form book (c .at))
 
 -- a sound look was at something whole
 pub whole : (book : List ℕ) (at wide : ℕ) (rest : Look) → wholeThen book at wide rest ≡ Sound → at + wide ≤ length book
@@ -61,12 +69,12 @@ whole book at wide rest e = ltb-false _ _ (not-faulty _ _ _ e .0)
 pub whole-count : (section : Section) (book : List ℕ) (at : ℕ) → countIn section book at ≡ Sound → at + 1 ≤ length book
 whole-count section book at e = whole book at 1 _ e
 
-pub whole-entry : (section : Section) (book : List ℕ) (listed : ℕ) (before : Before) (at : ℕ)
-    → lookIn section book listed before at ≡ Sound → at + widthIn section ≤ length book
+pub whole-entry : (form : Form) (section : Section) (book : List ℕ) (listed : ℕ) (before : Before) (at : ℕ)
+    → lookIn form section book listed before at ≡ Sound → at + widthIn form section ≤ length book
 unfolding entryLook
-whole-entry Permissions book listed before at e = whole book at _ _ e
-whole-entry Rows book listed before at e = whole book at _ _ e
-whole-entry Policies book listed before at e = whole book at _ _ e
+whole-entry form Permissions book listed before at e = whole book at _ _ e
+whole-entry form Rows book listed before at e = whole book at _ _ e
+whole-entry form Policies book listed before at e = whole book at _ _ e
 
 -- ---- one entry more
 
@@ -124,44 +132,44 @@ module _ {R : Type 0} (refused : Fault → ℕ → R) (good : R) where
   told-next (x ∷ l) e = next-look (x .look) (x .place) l (told-next l) e
 
 -- a section: its count, then its entries
-pub section-faulty : (section : Section) (book : List ℕ) (listed at : ℕ) (f : Fault)
-    → countIn section book at ≡ Faulty f → stepIn section book listed at ≡ step.Refused f at
+pub section-faulty : (form : Form) (section : Section) (book : List ℕ) (listed at : ℕ) (f : Fault)
+    → countIn section book at ≡ Faulty f → stepIn form section book listed at ≡ step.Refused f at
 unfolding stepIn sectionLooks countLook firstFault
-section-faulty Permissions book listed at f e = rw e
-section-faulty Rows book listed at f e = rw e
-section-faulty Policies book listed at f e = rw e
+section-faulty form Permissions book listed at f e = rw e
+section-faulty form Rows book listed at f e = rw e
+section-faulty form Policies book listed at f e = rw e
 
-pub section-sound : (section : Section) (book : List ℕ) (listed at : ℕ) → countIn section book at ≡ Sound
-    → stepIn section book listed at
-    ≡ stepFrom (lookIn section book listed) (widthIn section) (startAt (at + 1)) (countAt book at)
+pub section-sound : (form : Form) (section : Section) (book : List ℕ) (listed at : ℕ) → countIn section book at ≡ Sound
+    → stepIn form section book listed at
+    ≡ stepFrom (lookIn form section book listed) (widthIn form section) (startAt (at + 1)) (countAt book at)
 unfolding stepIn sectionLooks countLook firstFault stepFrom past
-section-sound Permissions book listed at e = rw e
-section-sound Rows book listed at e = rw e
-section-sound Policies book listed at e = rw e
+section-sound form Permissions book listed at e = rw e
+section-sound form Rows book listed at e = rw e
+section-sound form Policies book listed at e = rw e
 
 -- ---- from a section on
 
-module _ (section : Section) (book : List ℕ) (listed at : ℕ) (good : Reading) (rest : List Found) where
+module _ (form : Form) (section : Section) (book : List ℕ) (listed at : ℕ) (good : Reading) (rest : List Found) where
   -- a section's fault is the book's
-  pub read-refused : {f : Fault} {p : ℕ} → stepIn section book listed at ≡ step.Refused f p
-      → firstFault read.Refused good (looksIn section book listed at ++ rest) ≡ read.Refused f p
+  pub read-refused : {f : Fault} {p : ℕ} → stepIn form section book listed at ≡ step.Refused f p
+      → firstFault read.Refused good (looksIn form section book listed at ++ rest) ≡ read.Refused f p
   unfolding stepIn
   read-refused e =
-      first-append read.Refused good (looksIn section book listed at) rest
-      ∙ told-refused read.Refused _ (pastIn section book at) (looksIn section book listed at) e
+      first-append read.Refused good (looksIn form section book listed at) rest
+      ∙ told-refused read.Refused _ (pastIn form section book at) (looksIn form section book listed at) e
 
   -- past a section without fault the rest decides
-  pub read-on : {m : ℕ} → stepIn section book listed at ≡ step.Next m
-      → (firstFault read.Refused good (looksIn section book listed at ++ rest) ≡ firstFault read.Refused good rest) × (m ≡ pastIn section book at)
+  pub read-on : {m : ℕ} → stepIn form section book listed at ≡ step.Next m
+      → (firstFault read.Refused good (looksIn form section book listed at ++ rest) ≡ firstFault read.Refused good rest) × (m ≡ pastIn form section book at)
   unfolding stepIn
   read-on e =
-      let t = told-next read.Refused (firstFault read.Refused good rest) (looksIn section book listed at) e in
-      (first-append read.Refused good (looksIn section book listed at) rest ∙ t .0, t .1)
+      let t = told-next read.Refused (firstFault read.Refused good rest) (looksIn form section book listed at) e in
+      (first-append read.Refused good (looksIn form section book listed at) rest ∙ t .0, t .1)
 
 -- what a step tells, once the number of listed permissions is known
-pub told : {r t : Step} (section : Section) (book : List ℕ) (at : ℕ) {n listed : ℕ}
-    → r ≡ stepIn section book n at → n ≡ listed → r ≡ t → stepIn section book listed at ≡ t
-told section book at e h w = ap (λ (x : ℕ). stepIn section book x at) (sym h) ∙ sym e ∙ w
+pub told : {r t : Step} (form : Form) (section : Section) (book : List ℕ) (at : ℕ) {n listed : ℕ}
+    → r ≡ stepIn form section book n at → n ≡ listed → r ≡ t → stepIn form section book listed at ≡ t
+told form section book at e h w = ap (λ (x : ℕ). stepIn form section book x at) (sym h) ∙ sym e ∙ w
 
 -- "bytes follow the policies", or none does
 pub end-excess : (book : List ℕ) (at : ℕ) (good : Reading) → at < length book

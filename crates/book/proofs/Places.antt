@@ -1,11 +1,20 @@
--- A section's entries are not far from its start. Assumes nothing.
+-- How wide a row is, and that a section's entries are not far from its start. Assumes nothing.
 use Prim.Native.Nat.{ℕ, _*_, _≤_, _<_}
 use native.Mathlib.Omega.{arith}
+use Rattle.book.specs.Reading.{rowsOf, width}
 use Rattle.book.specs.Steps.{widthIn}
+use Rattle.book.specs.declared.Form.{Form}
+use Rattle.book.specs.declared.Form.the-variants.{Old, Persons}
 use Rattle.book.specs.declared.Section.{Section}
 use Rattle.book.specs.declared.Section.the-variants.{Permissions, Rows, Policies}
 
-pub near : (section : Section) (i : ℕ) → i < 256 → widthIn section * i ≤ 2048
-near Permissions i h = omega arith
-near Rows i h = omega arith
-near Policies i h = omega arith
+pub near : (form : Form) (section : Section) (i : ℕ) → i < 256 → widthIn form section * i ≤ 3060
+near form Permissions i h = omega arith
+near Old Rows i h = omega arith
+near Persons Rows i h = omega arith
+near form Policies i h = omega arith
+
+-- a row has a staff number and holdings in every form
+pub row-wide : (form : Form) → 8 ≤ width (rowsOf form)
+row-wide Old = omega arith
+row-wide Persons = omega arith

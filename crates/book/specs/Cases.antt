@@ -6,29 +6,35 @@ use Prim.Native.Nat.{ℕ}
 use lib.ListN.{length, set, take}
 use Rattle.sets.specs.Arrays.{tabulate}
 use Rattle.roster.specs.Refusals.{policyRuling}
+use Rattle.roster.specs.declared.Policy.{Policy}
 use Rattle.book.specs.Layout.{Contents, bytesOf, joined, fieldBytes, littleEndian}
 use Rattle.book.specs.Faults.{faultNumber}
-use Rattle.book.specs.Reading.{number, fieldsAt, countLook, entryLook, inTurn, sectionLooks, past, firstFault, readOf}
+use Rattle.book.specs.Reading.{number, fieldsAt, countLook, entryLook, inTurn, sectionLooks, past, formOf, firstFault, readOf}
+use Rattle.book.specs.declared.Form.the-variants.{Old, Persons}
 use Rattle.book.specs.declared.Reading.{Reading}
 use Rattle.book.specs.declared.Reading.the-variants as read
 
 -- ---- book B
 
 -- "codes 10, 20; staff 101, 102, 103, 104 with holdings 3, 1, 2, 3; policies (3; 1,2,2), (3; 2,2,2), (3; 0,3,1)"
+abbrev pub policiesB : List Policy
+policiesB =
+    record { task = 3; away = 1; crews = 2; size = 2 }
+    ∷ record { task = 3; away = 2; crews = 2; size = 2 }
+    ∷ record { task = 3; away = 0; crews = 3; size = 1 }
+    ∷ []
+
 abbrev pub valuesB : Contents
 valuesB = record {
+  form = Old;
   codes = 10 ∷ 20 ∷ [];
   rows =
-      record { staff = 101; holdings = 3 }
-      ∷ record { staff = 102; holdings = 1 }
-      ∷ record { staff = 103; holdings = 2 }
-      ∷ record { staff = 104; holdings = 3 }
+      record { staff = 101; person = 101; holdings = 3 }
+      ∷ record { staff = 102; person = 102; holdings = 1 }
+      ∷ record { staff = 103; person = 103; holdings = 2 }
+      ∷ record { staff = 104; person = 104; holdings = 3 }
       ∷ [];
-  policies =
-      record { task = 3; away = 1; crews = 2; size = 2 }
-      ∷ record { task = 3; away = 2; crews = 2; size = 2 }
-      ∷ record { task = 3; away = 0; crews = 3; size = 1 }
-      ∷ [];
+  policies = policiesB;
 }
 
 -- the bytes of the file
@@ -47,6 +53,35 @@ b-bytes = refl
 pub b-long : length bookB ≡ 60
 b-long = refl
 
+-- ---- the same staff as a new book, where 102 and 103 are accounts of one person
+
+abbrev pub valuesNewB : Contents
+valuesNewB = record {
+  form = Persons;
+  codes = 10 ∷ 20 ∷ [];
+  rows =
+      record { staff = 101; person = 7; holdings = 3 }
+      ∷ record { staff = 102; person = 8; holdings = 1 }
+      ∷ record { staff = 103; person = 8; holdings = 2 }
+      ∷ record { staff = 104; person = 9; holdings = 3 }
+      ∷ [];
+  policies = policiesB;
+}
+
+abbrev pub newB : List ℕ
+newB =
+    200 ∷ 2 ∷ 10 ∷ 0 ∷ 20 ∷ 0
+    ∷ 4 ∷ 101 ∷ 0 ∷ 0 ∷ 0 ∷ 7 ∷ 0 ∷ 0 ∷ 0 ∷ 3 ∷ 0 ∷ 0 ∷ 0 ∷ 102 ∷ 0 ∷ 0 ∷ 0 ∷ 8 ∷ 0 ∷ 0 ∷ 0 ∷ 1 ∷ 0 ∷ 0 ∷ 0
+    ∷ 103 ∷ 0 ∷ 0 ∷ 0 ∷ 8 ∷ 0 ∷ 0 ∷ 0 ∷ 2 ∷ 0 ∷ 0 ∷ 0 ∷ 104 ∷ 0 ∷ 0 ∷ 0 ∷ 9 ∷ 0 ∷ 0 ∷ 0 ∷ 3 ∷ 0 ∷ 0 ∷ 0
+    ∷ 3 ∷ 3 ∷ 0 ∷ 0 ∷ 0 ∷ 1 ∷ 2 ∷ 2 ∷ 3 ∷ 0 ∷ 0 ∷ 0 ∷ 2 ∷ 2 ∷ 2 ∷ 3 ∷ 0 ∷ 0 ∷ 0 ∷ 0 ∷ 3 ∷ 1 ∷ []
+
+pub new-b-bytes : bytesOf valuesNewB ≡ newB
+unfolding bytesOf joined fieldBytes littleEndian
+new-b-bytes = refl
+
+pub new-b-long : length newB ≡ 77
+new-b-long = refl
+
 -- ---- how the table is written
 
 -- what is told of a book: good, with where its rows and its policies start, or the number and the place of its first fault
@@ -58,7 +93,7 @@ abbrev pub outcome : Reading → Outcome
 outcome (read.Good starts) = good (starts .rows) (starts .policies)
 outcome (read.Refused fault place) = bad (faultNumber fault) place
 
--- the bytes of a row, and of a policy, whose numbers are below 256
+-- the bytes of an old row, and of a policy, whose numbers are below 256
 abbrev pub person : ℕ → ℕ → List ℕ
 person staff holdings = staff ∷ 0 ∷ 0 ∷ 0 ∷ holdings ∷ 0 ∷ 0 ∷ 0 ∷ []
 
@@ -89,7 +124,9 @@ countCases =
     ([], bad 11 0)
     ∷ (0 ∷ [], bad 12 0)
     ∷ (33 ∷ [], bad 12 0)
-    ∷ (200 ∷ [], bad 12 0)
+    ∷ (199 ∷ [], bad 12 0)
+    ∷ (201 ∷ [], bad 12 0)
+    ∷ (202 ∷ [], bad 12 0)
     ∷ (255 ∷ [], bad 12 0)
     -- the least book: one permission, nobody, nothing asked
     ∷ (1 ∷ 0 ∷ 0 ∷ 0 ∷ 0 ∷ [], good 3 4)
@@ -249,12 +286,57 @@ casesOfB =
     ∷ (take 59 bookB, bad 11 53)
     ∷ []
 
+-- new books: the leading byte by itself, the permission count behind it, and book B of persons with a byte changed, cut before and in each
+-- count and entry, and with one byte more
+abbrev pub newCases : List (List ℕ × Outcome)
+newCases =
+    (200 ∷ [], bad 11 1)
+    ∷ (200 ∷ 0 ∷ [], bad 12 1)
+    ∷ (200 ∷ 33 ∷ [], bad 12 1)
+    ∷ (200 ∷ 200 ∷ [], bad 12 1)
+    ∷ (200 ∷ 1 ∷ 0 ∷ 0 ∷ 0 ∷ 0 ∷ [], good 4 5)
+    ∷ (200 ∷ (codesTo 32 ++ (0 ∷ 0 ∷ [])), good 66 67)
+    ∷ (newB, good 6 55)
+    ∷ (newB ++ (0 ∷ []), bad 19 77)
+    ∷ (set newB 1 0, bad 12 1)
+    ∷ (set newB 1 33, bad 12 1)
+    ∷ (set newB 4 10, bad 13 4)
+    ∷ (set newB 6 65, bad 14 6)
+    ∷ (set newB 19 101, bad 15 19)
+    -- any person number, in any order
+    ∷ (set newB 23 255, good 6 55)
+    ∷ (set newB 23 0, good 6 55)
+    ∷ (set (set newB 26 255) 38 255, good 6 55)
+    ∷ (set newB 27 4, bad 16 19)
+    ∷ (set (set newB 19 101) 27 4, bad 15 19)
+    ∷ (set newB 55 33, bad 17 55)
+    ∷ (set newB 56 4, bad 18 56)
+    ∷ (set newB 56 0, bad 2 56)
+    ∷ (set newB 60 65, bad 3 56)
+    ∷ (set newB 61 0, bad 4 56)
+    ∷ (set newB 62 65, bad 5 56)
+    ∷ (take 2 newB, bad 11 2)
+    ∷ (take 4 newB, bad 11 4)
+    ∷ (take 5 newB, bad 11 4)
+    ∷ (take 6 newB, bad 11 6)
+    ∷ (take 7 newB, bad 11 7)
+    ∷ (take 15 newB, bad 11 7)
+    ∷ (take 18 newB, bad 11 7)
+    ∷ (take 19 newB, bad 11 19)
+    ∷ (take 30 (set newB 19 101), bad 11 19)
+    ∷ (take 43 newB, bad 11 43)
+    ∷ (take 55 newB, bad 11 55)
+    ∷ (take 56 newB, bad 11 56)
+    ∷ (take 63 newB, bad 11 63)
+    ∷ (take 76 newB, bad 11 70)
+    ∷ []
+
 abbrev pub cases : List (List ℕ × Outcome)
-cases = countCases ++ codeCases ++ rowCases ++ policyCases ++ faultsTogether ++ faultsApart ++ cutCases ++ casesOfB
+cases = countCases ++ codeCases ++ rowCases ++ policyCases ++ faultsTogether ++ faultsApart ++ cutCases ++ casesOfB ++ newCases
 
 -- ---- the fact
 
 -- what is told of each book is what the table says
 pub cases-told : map (λ (c : List ℕ × Outcome). outcome (readOf (c .0))) cases ≡ map (λ (c : List ℕ × Outcome). c .1) cases
-unfolding tabulate number fieldsAt countLook entryLook inTurn sectionLooks past firstFault readOf policyRuling
+unfolding tabulate number fieldsAt countLook entryLook inTurn sectionLooks past formOf firstFault readOf policyRuling
 cases-told = refl

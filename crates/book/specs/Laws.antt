@@ -5,6 +5,7 @@ pub mod Parts
 pub mod View
 pub mod Longest
 pub mod Prefix
+pub mod Old
 -- what that stands on
 pub mod First
 pub mod Codec

@@ -1,6 +1,7 @@
--- 01, "The roster book": the bytes of a book as a function of its permissions, rows and policies, and which values are admitted. A good book
--- is the layout of admitted values. Nothing here is proved: these are definitions.
+-- 01, "The roster book", and request 04: the bytes of a book as a function of its form, permissions, rows and policies, and which values are
+-- admitted. A good book is the layout of admitted values. Nothing here is proved: these are definitions.
 use mathlib.Core.Path.{_≡_}
+use mathlib.Core.Bool.{Bool, true, false}
 use mathlib.Core.List.{List, [], _∷_, _++_}
 use Prim.Native.Nat.{ℕ, zero, suc, _/_, _%_, _^_, _≤_, _<_}
 use lib.ListN.{length}
@@ -8,6 +9,8 @@ use Rattle.roster.specs.Limits.{rowLimit}
 use Rattle.roster.specs.Refusals.{ownRuling}
 use Rattle.roster.specs.declared.Ruling.the-variants as ruling
 use Rattle.roster.specs.declared.Policy.{Policy}
+use Rattle.book.specs.declared.Form.{Form}
+use Rattle.book.specs.declared.Form.the-variants.{Old, Persons}
 use Rattle.book.specs.declared.Row.{Row}
 
 -- "Permissions, 1 to 32"
@@ -22,16 +25,18 @@ policyLimit = 32
 abbrev pub codeWidths : List ℕ
 codeWidths = 2 ∷ []
 
--- "4-byte staff number, 4-byte holdings"
-abbrev pub rowWidths : List ℕ
-rowWidths = 4 ∷ 4 ∷ []
+-- "4-byte staff number, 4-byte holdings"; in a new book "a person number of 4 bytes between staff number and holdings"
+abbrev pub rowWidths : Bool → List ℕ
+rowWidths false = 4 ∷ 4 ∷ []
+rowWidths true = 4 ∷ 4 ∷ 4 ∷ []
 
 -- "4-byte P, then s, d, t in a byte each"
 abbrev pub policyWidths : List ℕ
 policyWidths = 4 ∷ 1 ∷ 1 ∷ 1 ∷ []
 
--- the values of a book: "The i-th code is bit i."
+-- the values of a book: "The form is one of the values"; "The i-th code is bit i."
 pub record Contents : Type 0 where
+  pub form : Form
   pub codes : List ℕ
   pub rows : List Row
   pub policies : List Policy
@@ -50,11 +55,17 @@ fieldBytes (w ∷ ws) (x ∷ xs) = littleEndian w x ++ fieldBytes ws xs
 abbrev pub codeFields : ℕ → List ℕ
 codeFields code = code ∷ []
 
-abbrev pub rowFields : Row → List ℕ
-rowFields row = row .staff ∷ row .holdings ∷ []
+abbrev pub rowFields : Bool → Row → List ℕ
+rowFields false row = row .staff ∷ row .holdings ∷ []
+rowFields true row = row .staff ∷ row .person ∷ row .holdings ∷ []
 
 abbrev pub policyFields : Policy → List ℕ
 policyFields p = p .task ∷ p .away ∷ p .crews ∷ p .size ∷ []
+
+-- "the fields it has and no others": an old row has no person number, and "reads as every row its own person", by its staff number
+abbrev pub Own : Bool → Row → Type 0
+Own false row = row .person ≡ row .staff
+Own true row = Unit {0}
 
 -- the entries one after the other
 unfoldable pub joined : {A : Type 0} → (A → List ℕ) → List A → List ℕ
@@ -65,12 +76,24 @@ joined bytes (x ∷ l) = bytes x ++ joined bytes l
 abbrev pub section : {A : Type 0} → List ℕ → (A → List ℕ) → List A → List ℕ
 section widths fields l = length l ∷ joined (λ x. fieldBytes widths (fields x)) l
 
+-- whether the rows of a book of this form have person numbers
+abbrev pub hasPersons : Form → Bool
+hasPersons Old = false
+hasPersons Persons = true
+
+-- "A new book has a leading byte 200 before the permission count"
+abbrev pub lead : Form → List ℕ
+lead Old = []
+lead Persons = 200 ∷ []
+
 -- "three sections in a fixed order"
 unfoldable pub bytesOf : Contents → List ℕ
 bytesOf v =
-    section codeWidths codeFields (v .codes)
-    ++ (section rowWidths rowFields (v .rows)
-    ++ section policyWidths policyFields (v .policies))
+    let persons = hasPersons (v .form) in
+    lead (v .form)
+    ++ (section codeWidths codeFields (v .codes)
+    ++ (section (rowWidths persons) (rowFields persons) (v .rows)
+    ++ section policyWidths policyFields (v .policies)))
 
 -- each of the list is so
 unfoldable pub Each : {A : Type 0} → (A → Type 0) → List A → Type 0
@@ -102,6 +125,8 @@ pub record Admitted (v : Contents) : Type 0 where
   pub codesAscend : Ascends (λ code. code) (v .codes)
   pub staff : Each (λ row. row .staff < 2 ^ 32) (v .rows)
   pub staffAscends : Ascends (λ row. row .staff) (v .rows)
+  pub persons : Each (λ row. row .person < 2 ^ 32) (v .rows)
+  pub own : Each (Own (hasPersons (v .form))) (v .rows)
   pub holdings : Each (λ row. row .holdings < 2 ^ length (v .codes)) (v .rows)
   pub sound : Each (PolicyFits (length (v .codes))) (v .policies)
 

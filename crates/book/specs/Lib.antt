@@ -4,6 +4,8 @@ pub mod Faults
 pub mod Reading
 pub mod Parts
 pub mod Promises
+-- the book before there were forms
+pub mod OldBooks
 -- examples, computed
 pub mod Cases
 -- the theorems

@@ -1,4 +1,4 @@
--- 01, "The roster book": what a book's parts are, for every byte string: the codes, the table, the policies, and staff number and holdings by row. A
+-- 01, "The roster book": what a book's parts are, for every byte string: the codes, the accounts, the policies, and each row by its number. A
 -- refused book has no parts: its sections are taken to start at its end, where no count stands. Nothing here is proved: these are definitions.
 use mathlib.Core.Bool.{true, false}
 use mathlib.Core.List.{List, [], _∷_}
@@ -12,9 +12,10 @@ use Rattle.roster.specs.Refusals.{made}
 use Rattle.roster.specs.declared.Made.{Made}
 use Rattle.roster.specs.declared.Made.the-variants as variants
 use Rattle.roster.specs.declared.Policy.{Policy}
-use Rattle.roster.specs.declared.Table.{Table}
+use Rattle.accounts.specs.declared.Accounts.{Accounts}
 use Rattle.book.specs.Layout.{Contents}
-use Rattle.book.specs.Reading.{Kind, codes, rows, policies, width, entryAt, countAt, past, readOf}
+use Rattle.book.specs.Reading.{Kind, codes, rowsOf, policies, width, entryAt, countAt, past, formOf, front, readOf}
+use Rattle.book.specs.declared.Form.{Form}
 use Rattle.book.specs.declared.Reading.{Reading}
 use Rattle.book.specs.declared.Reading.the-variants.{Good, Refused}
 use Rattle.book.specs.declared.Starts.{Starts}
@@ -22,6 +23,7 @@ use Rattle.book.specs.declared.Place.{Place}
 use Rattle.book.specs.declared.Place.the-variants as place
 use Rattle.book.specs.declared.Coded.{Coded}
 use Rattle.book.specs.declared.Coded.the-variants as coded
+use Rattle.book.specs.declared.Row.{Row}
 use Rattle.book.specs.declared.Seen.{Seen}
 use Rattle.book.specs.declared.Seen.the-variants as seen
 use Rattle.book.specs.declared.Book.{Book}
@@ -39,13 +41,19 @@ entriesAt kind book at (suc n) = entryAt kind book at ∷ entriesAt kind book (a
 abbrev pub valuesAt : {A : Type 0} → Kind A → List ℕ → ℕ → List A
 valuesAt kind book at = entriesAt kind book (at + 1) (countAt book at)
 
--- the values that a good book is the layout of
-unfoldable pub contentsOf : List ℕ → Contents
-contentsOf book = record {
-  codes = valuesAt codes book 0;
-  rows = valuesAt rows book (past codes book 0);
-  policies = valuesAt policies book (past rows book (past codes book 0));
-}
+-- the values that a good book is the layout of, by its form
+unfoldable pub contentsBy : Form → List ℕ → Contents
+contentsBy form book =
+    let rowsAt = past codes book (front form) in
+    record {
+      form = form;
+      codes = valuesAt codes book (front form);
+      rows = valuesAt (rowsOf form) book rowsAt;
+      policies = valuesAt policies book (past (rowsOf form) book rowsAt);
+    }
+
+abbrev pub contentsOf : List ℕ → Contents
+contentsOf book = contentsBy (formOf book) book
 
 -- ---- its parts by place
 
@@ -82,14 +90,14 @@ codeCount book = countAt book (startsIn book .permissions)
 
 -- ---- its rows
 
--- "staff number and holdings by row; past the last row it answers "no such row""
+-- "staff number and holdings by row; past the last row it answers "no such row"": the row whole, with its person number
 abbrev pub rowFrom : List ℕ → Place → Seen
-rowFrom book (place.At at) = seen.Row (entryAt rows book at)
+rowFrom book (place.At at) = seen.Row (entryAt (rowsOf (formOf book)) book at)
 rowFrom book place.Nothing = seen.NoSuchRow
 
 -- a row of a book whose sections start here: where it stands, and what it is
 abbrev pub rowPlace : List ℕ → Starts → ℕ → Place
-rowPlace book starts row = placeOf (width rows) book (starts .rows) row
+rowPlace book starts row = placeOf (width (rowsOf (formOf book))) book (starts .rows) row
 
 abbrev pub rowAt : List ℕ → Starts → ℕ → Seen
 rowAt book starts row = rowFrom book (rowPlace book starts row)
@@ -102,19 +110,23 @@ rowByNumber book row = rowAt book (startsIn book) row
 abbrev pub rowOf : Book → ℕ → Seen
 rowOf view row = rowAt (now (view .bytes)) (view .starts) row
 
--- ---- the table and the policies
+-- ---- the accounts and the policies
 
--- a row that is not there holds nothing
-abbrev pub heldOr0 : Seen → ℕ
-heldOr0 (seen.Row row) = row .holdings
-heldOr0 seen.NoSuchRow = 0
+-- a row that is not there has no numbers and holds nothing
+abbrev pub rowOr0 : Seen → Row
+rowOr0 (seen.Row row) = row
+rowOr0 seen.NoSuchRow = record { staff = 0; person = 0; holdings = 0 }
 
--- "The table is one value that carries all 64 holdings and its row count"
-unfoldable pub tableOf : List ℕ → Table
-tableOf book = record {
-  holdings = tabulate rowLimit (λ row. heldOr0 (rowByNumber book row));
-  rows = countAt book (startsIn book .rows);
+-- "The table is one value that carries all 64 holdings and its row count", and all person numbers: that of a book whose sections start here
+abbrev pub accountsAt : List ℕ → Starts → Accounts
+accountsAt book starts = record {
+  holdings = tabulate rowLimit (λ row. rowOr0 (rowAt book starts row) .holdings);
+  persons = tabulate rowLimit (λ row. rowOr0 (rowAt book starts row) .person);
+  rows = countAt book (starts .rows);
 }
+
+unfoldable pub accountsIn : List ℕ → Accounts
+accountsIn book = accountsAt book (startsIn book)
 
 unfoldable pub policyCount : List ℕ → ℕ
 policyCount book = countAt book (startsIn book .policies)

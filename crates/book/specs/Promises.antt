@@ -9,10 +9,11 @@ use denote.Ref.{RefT, now}
 use Rattle.sets.specs.Arrays.{tabulate}
 use Rattle.roster.specs.Limits.{rowLimit}
 use Rattle.roster.specs.declared.Policy.{Policy}
-use Rattle.roster.specs.declared.Table.{Table}
-use Rattle.book.specs.Layout.{Contents, Each, LayoutOf, section, codeWidths, codeFields, rowWidths, rowFields}
-use Rattle.book.specs.Reading.{Found, looks}
-use Rattle.book.specs.Parts.{startsIn, codeCount, codeAt, rowByNumber, heldOr0, tableOf, policyCount, policyAt}
+use Rattle.accounts.specs.declared.Accounts.{Accounts}
+use Rattle.book.specs.Layout.{Contents, Each, LayoutOf, section, codeWidths, codeFields, rowWidths, rowFields, hasPersons, lead}
+use Rattle.book.specs.Reading.{Found, formOf, looks}
+use Rattle.book.specs.declared.Form.{Form}
+use Rattle.book.specs.Parts.{startsIn, codeCount, codeAt, rowByNumber, rowOr0, accountsIn, policyCount, policyAt}
 use Rattle.book.specs.declared.Fault.{Fault}
 use Rattle.book.specs.declared.Look.the-variants.{Sound, Faulty}
 use Rattle.book.specs.declared.Reading.{Reading}
@@ -44,11 +45,14 @@ pub record FirstFault (book : List ℕ) (f : Fault) (at : ℕ) : Type 0 where
 
 -- where the sections of the layout of these values start
 abbrev pub startsFor : Contents → Starts
-startsFor v = record {
-  permissions = 0;
-  rows = length (section codeWidths codeFields (v .codes));
-  policies = length (section codeWidths codeFields (v .codes) ++ section rowWidths rowFields (v .rows));
-}
+startsFor v =
+    let first = section codeWidths codeFields (v .codes) in
+    let second = section (rowWidths (hasPersons (v .form))) (rowFields (hasPersons (v .form))) (v .rows) in
+    record {
+      permissions = length (lead (v .form));
+      rows = length (lead (v .form) ++ first);
+      policies = length (lead (v .form) ++ (first ++ second));
+    }
 
 -- what may be replied to these bytes
 pub record Allows (book : List ℕ) (r : Reading) : Type 0 where
@@ -70,25 +74,27 @@ abbrev pub policyBy : Option Policy → Listed
 policyBy none = listed.NoSuchPolicy
 policyBy (some p) = listed.Policy p
 
--- the table of these values: a row's holdings, and 0 past the last
-abbrev pub tableFor : Contents → Table
-tableFor v = record {
-  holdings = tabulate rowLimit (λ row. heldOr0 (rowBy (getElem? (v .rows) row)));
+-- the accounts of these values: a row's holdings and person number, and 0 past the last
+abbrev pub accountsFor : Contents → Accounts
+accountsFor v = record {
+  holdings = tabulate rowLimit (λ row. rowOr0 (rowBy (getElem? (v .rows) row)) .holdings);
+  persons = tabulate rowLimit (λ row. rowOr0 (rowBy (getElem? (v .rows) row)) .person);
   rows = length (v .rows);
 }
 
--- what the codes, the table, the policies and the rows of a book are that has these values
+-- what the form, the codes, the accounts, the policies and the rows of a book are that has these values
 pub record PartsOf (v : Contents) (book : List ℕ) : Type 0 where
+  pub form : formOf book ≡ v .form
   pub codes : codeCount book ≡ length (v .codes)
   pub code : (i : ℕ) → codeAt book (startsIn book) i ≡ codeBy (getElem? (v .codes) i)
-  pub table : tableOf book ≡ tableFor v
+  pub accounts : accountsIn book ≡ accountsFor v
   pub policies : policyCount book ≡ length (v .policies)
   pub policy : (i : ℕ) → policyAt book i ≡ policyBy (getElem? (v .policies) i)
   pub row : (i : ℕ) → rowByNumber book i ≡ rowBy (getElem? (v .rows) i)
 
--- what a refused book is taken to have
-abbrev pub nothing : Contents
-nothing = record { codes = []; rows = []; policies = [] }
+-- what a refused book is taken to have: its form, which is its first byte's, and nothing else
+abbrev pub nothing : Form → Contents
+nothing form = record { form = form; codes = []; rows = []; policies = [] }
 
 -- ---- the view
 

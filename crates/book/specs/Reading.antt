@@ -5,14 +5,16 @@ use mathlib.Core.Bool.{Bool, true, false}
 use mathlib.Core.List.{List, [], _∷_, _++_}
 use mathlib.Core.Option.{Option, some, none}
 use Prim.Native.Nat.{ℕ, zero, suc, _+_, _*_, _^_}
-use lib.Dec.{leb, ltb}
+use lib.Dec.{eqb, leb, ltb}
 use lib.ListN.{length, getD}
 use Rattle.roster.specs.Limits.{rowLimit}
 use Rattle.roster.specs.Refusals.{outside, made}
 use Rattle.roster.specs.declared.Made.{Made}
 use Rattle.roster.specs.declared.Made.the-variants as variants
 use Rattle.roster.specs.declared.Policy.{Policy}
-use Rattle.book.specs.Layout.{codeWidths, rowWidths, policyWidths, permissionLimit, policyLimit}
+use Rattle.book.specs.Layout.{codeWidths, rowWidths, policyWidths, hasPersons, permissionLimit, policyLimit}
+use Rattle.book.specs.declared.Form.{Form}
+use Rattle.book.specs.declared.Form.the-variants.{Old, Persons}
 use Rattle.book.specs.declared.Row.{Row}
 use Rattle.book.specs.declared.Fault.{Fault}
 use Rattle.book.specs.declared.Fault.the-variants as fault
@@ -85,11 +87,16 @@ staffOf (some row) = some (row .staff)
 abbrev pub rowLook : Bool → Bool → Look
 rowLook low beyond = faultIf low fault.Staff (faultIf beyond fault.Holdings Sound)
 
+-- the row that these fields are, with a person number or without
+abbrev pub rowWith : Bool → List ℕ → Row
+rowWith false f = record { staff = getD f 0 0; person = getD f 0 0; holdings = getD f 1 0 }
+rowWith true f = record { staff = getD f 0 0; person = getD f 1 0; holdings = getD f 2 0 }
+
 -- "**14** rows above 64"
-abbrev pub rows : Kind Row
-rows = record {
-  widths = rowWidths;
-  value = λ f. record { staff = getD f 0 0; holdings = getD f 1 0 };
+abbrev pub rows : Bool → Kind Row
+rows persons = record {
+  widths = rowWidths persons;
+  value = rowWith persons;
   outOfRange = ltb rowLimit;
   countFault = fault.Rows;
   faults = λ listed before row. rowLook (notAbove (staffOf before) (row .staff)) (pastListed listed (row .holdings));
@@ -164,23 +171,44 @@ past kind book at = at + 1 + width kind * countAt book at
 
 -- ---- the book
 
+-- "A new book has a leading byte 200 before the permission count; an old one .. can't start so"
+abbrev pub formBy : Bool → Form
+formBy true = Persons
+formBy false = Old
+
+unfoldable pub formOf : List ℕ → Form
+formOf book = formBy (eqb (getD book 0 0) 200)
+
+-- where the permissions start
+abbrev pub front : Form → ℕ
+front Old = 0
+front Persons = 1
+
+-- the rows of a book of this form
+abbrev pub rowsOf : Form → Kind Row
+rowsOf form = rows (hasPersons form)
+
 -- the number of listed permissions
-abbrev pub listedIn : List ℕ → ℕ
-listedIn book = countAt book 0
+abbrev pub listedIn : Form → List ℕ → ℕ
+listedIn form book = countAt book (front form)
 
 -- "Last, **19** bytes follow the policies; the place is the first of them."
 abbrev pub endLook : List ℕ → ℕ → Found
 endLook book at = record { place = at; look = faultIf (ltb at (length book)) fault.Excess Sound }
 
 -- all that is looked at, in the order of the bytes: from the policies on, from the rows on, from the front
-abbrev pub looksFromPolicies : List ℕ → ℕ → List Found
-looksFromPolicies book at = sectionLooks policies book (listedIn book) at ++ (endLook book (past policies book at) ∷ [])
+abbrev pub looksFromPolicies : Form → List ℕ → ℕ → List Found
+looksFromPolicies form book at = sectionLooks policies book (listedIn form book) at ++ (endLook book (past policies book at) ∷ [])
 
-abbrev pub looksFromRows : List ℕ → ℕ → List Found
-looksFromRows book at = sectionLooks rows book (listedIn book) at ++ looksFromPolicies book (past rows book at)
+abbrev pub looksFromRows : Form → List ℕ → ℕ → List Found
+looksFromRows form book at =
+    sectionLooks (rowsOf form) book (listedIn form book) at ++ looksFromPolicies form book (past (rowsOf form) book at)
+
+abbrev pub looksBy : Form → List ℕ → List Found
+looksBy form book = sectionLooks codes book 0 (front form) ++ looksFromRows form book (past codes book (front form))
 
 abbrev pub looks : List ℕ → List Found
-looks book = sectionLooks codes book 0 0 ++ looksFromRows book (past codes book 0)
+looks book = looksBy (formOf book) book
 
 -- "The book is read from the front; the first fault is refused with its number and the place": the first fault of a list, or what there is
 -- without one
@@ -189,9 +217,14 @@ firstFault refused good [] = good
 firstFault refused good (x ∷ l) = elim (x .look) [ Sound ↦ firstFault refused good l | Faulty f ↦ refused f (x .place) ]
 
 -- where the sections of a book start, each with its count
-abbrev pub startsOf : List ℕ → Starts
-startsOf book = record { permissions = 0; rows = past codes book 0; policies = past rows book (past codes book 0) }
+abbrev pub startsOf : Form → List ℕ → Starts
+startsOf form book =
+    let rowsAt = past codes book (front form) in
+    record { permissions = front form; rows = rowsAt; policies = past (rowsOf form) book rowsAt }
 
--- the reply to these bytes
+-- the reply to these bytes, by their form
+abbrev pub readBy : Form → List ℕ → Reading
+readBy form book = firstFault read.Refused (read.Good (startsOf form book)) (looksBy form book)
+
 unfoldable pub readOf : List ℕ → Reading
-readOf book = firstFault read.Refused (read.Good (startsOf book)) (looks book)
+readOf book = readBy (formOf book) book

@@ -3,12 +3,16 @@
 use mathlib.Core.Bool.{Bool}
 use mathlib.Core.List.{List}
 use Prim.Native.Nat.{ℕ, _+_, _*_}
+use lib.Dec.{ltb}
+use Rattle.roster.specs.Limits.{rowLimit}
 use Rattle.roster.specs.Refusals.{made}
 use Rattle.roster.specs.declared.Made.{Made}
-use Rattle.book.specs.Reading.{number, Found, notAbove, prior, codes, rows, policies, width, entryAt, faultIf, wholeThen, countAt, entryLook, inTurn, sectionLooks, past, looksFromPolicies, looksFromRows, firstFault}
+use Rattle.book.specs.Reading.{number, Found, notAbove, prior, codes, rowsOf, policies, width, entryAt, faultIf, wholeThen, countAt, entryLook, inTurn, sectionLooks, past, front, looksFromPolicies, looksFromRows, firstFault}
+use Rattle.book.specs.declared.Form.{Form}
 use Rattle.book.specs.declared.Section.{Section}
 use Rattle.book.specs.declared.Section.the-variants.{Permissions, Rows, Policies}
 use Rattle.book.specs.declared.Fault.{Fault}
+use Rattle.book.specs.declared.Fault.the-variants as fault
 use Rattle.book.specs.declared.Look.{Look}
 use Rattle.book.specs.declared.Look.the-variants.{Sound}
 use Rattle.book.specs.declared.Before.{Before}
@@ -20,10 +24,10 @@ use Rattle.book.specs.declared.Step.the-variants as step
 use Rattle.book.specs.declared.Reading.{Reading}
 use Rattle.book.specs.declared.Reading.the-variants as read
 
-abbrev pub widthIn : Section → ℕ
-widthIn Permissions = width codes
-widthIn Rows = width rows
-widthIn Policies = width policies
+abbrev pub widthIn : Form → Section → ℕ
+widthIn form Permissions = width codes
+widthIn form Rows = width (rowsOf form)
+widthIn form Policies = width policies
 
 -- the number that an entry starts with: a code, a staff number, P
 abbrev pub leadIn : Section → List ℕ → ℕ → ℕ
@@ -38,12 +42,12 @@ staysIn section book c = notAbove (prior (leadIn section book) (c .before)) (lea
 -- the counts that are out of range, and their fault
 abbrev pub outIn : Section → ℕ → Bool
 outIn Permissions = codes .outOfRange
-outIn Rows = rows .outOfRange
+outIn Rows = ltb rowLimit
 outIn Policies = policies .outOfRange
 
 abbrev pub countFaultIn : Section → Fault
 countFaultIn Permissions = codes .countFault
-countFaultIn Rows = rows .countFault
+countFaultIn Rows = fault.Rows
 countFaultIn Policies = policies .countFault
 
 -- a count that is whole, and one of the book
@@ -57,10 +61,10 @@ countIn section book at = wholeThen book at 1 (countLookIn section (countAt book
 abbrev pub madeAt : List ℕ → ℕ → Made
 madeAt book at = made (entryAt policies book at)
 
-abbrev pub lookIn : Section → List ℕ → ℕ → Before → ℕ → Look
-lookIn Permissions = entryLook codes
-lookIn Rows = entryLook rows
-lookIn Policies = entryLook policies
+abbrev pub lookIn : Form → Section → List ℕ → ℕ → Before → ℕ → Look
+lookIn form Permissions = entryLook codes
+lookIn form Rows = entryLook (rowsOf form)
+lookIn form Policies = entryLook policies
 
 -- past an entry of this width
 abbrev pub pastEntry : Cursor → ℕ → Cursor
@@ -75,24 +79,25 @@ abbrev pub startAt : ℕ → Cursor
 startAt at = record { before = Nothing; at = at }
 
 -- a whole section
-abbrev pub looksIn : Section → List ℕ → ℕ → ℕ → List Found
-looksIn Permissions = sectionLooks codes
-looksIn Rows = sectionLooks rows
-looksIn Policies = sectionLooks policies
+abbrev pub looksIn : Form → Section → List ℕ → ℕ → ℕ → List Found
+looksIn form Permissions = sectionLooks codes
+looksIn form Rows = sectionLooks (rowsOf form)
+looksIn form Policies = sectionLooks policies
 
-abbrev pub pastIn : Section → List ℕ → ℕ → ℕ
-pastIn Permissions = past codes
-pastIn Rows = past rows
-pastIn Policies = past policies
+abbrev pub pastIn : Form → Section → List ℕ → ℕ → ℕ
+pastIn form Permissions = past codes
+pastIn form Rows = past (rowsOf form)
+pastIn form Policies = past policies
 
-unfoldable pub stepIn : Section → List ℕ → ℕ → ℕ → Step
-stepIn section book listed at = firstFault step.Refused (step.Next (pastIn section book at)) (looksIn section book listed at)
+unfoldable pub stepIn : Form → Section → List ℕ → ℕ → ℕ → Step
+stepIn form section book listed at =
+    firstFault step.Refused (step.Next (pastIn form section book at)) (looksIn form section book listed at)
 
 -- what is left of the reading once the rows start here, and once the policies do
-unfoldable pub readPolicies : List ℕ → ℕ → ℕ → Reading
-readPolicies book rowsAt at =
-    firstFault read.Refused (read.Good (record { permissions = 0; rows = rowsAt; policies = at })) (looksFromPolicies book at)
+unfoldable pub readPolicies : Form → List ℕ → ℕ → ℕ → Reading
+readPolicies form book rowsAt at =
+    firstFault read.Refused (read.Good (record { permissions = front form; rows = rowsAt; policies = at })) (looksFromPolicies form book at)
 
-unfoldable pub readRows : List ℕ → ℕ → Reading
-readRows book at =
-    firstFault read.Refused (read.Good (record { permissions = 0; rows = at; policies = past rows book at })) (looksFromRows book at)
+unfoldable pub readRows : Form → List ℕ → ℕ → Reading
+readRows form book at =
+    firstFault read.Refused (read.Good (record { permissions = front form; rows = at; policies = past (rowsOf form) book at })) (looksFromRows form book at)

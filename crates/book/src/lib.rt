@@ -1,25 +1,23 @@
 // The roster book: the bytes by which a site hands over its permissions, its rows and its policies. `read` says of every byte string
 // whether it is a good book or what its first fault is; the functions after it hand out a good book's parts. specs/Layout says what a book
-// is, specs/Reading what is refused and where.
+// is, specs/Reading what is refused and where. A book has one of two forms, told by its first byte.
 pub mod sections;
 
+use accounts::Accounts;
 use roster::Made;
 use roster::Policy;
 use roster::Refusal;
-use roster::Table;
 use sections::count_at;
 use sections::cut;
-use sections::four;
 use sections::policy_from;
+use sections::row_from;
 use sections::section_step;
 use sections::two;
 use sections::width;
 ghost use mathlib.Core.Path.{_≡_};
-ghost use Rattle.sets.specs.Arrays.{tabulate};
-ghost use Rattle.roster.specs.Limits.{rowLimit};
 ghost use Rattle.book.specs.Faults.{faultNumber};
-ghost use Rattle.book.specs.Reading.{readOf};
-ghost use Rattle.book.specs.Parts.{startsIn, placeOf, codeCount, codeAt, rowAt, rowOf, rowByNumber, heldOr0, tableOf, policyCount, policyIn, policyAt};
+ghost use Rattle.book.specs.Reading.{formOf, front, readOf};
+ghost use Rattle.book.specs.Parts.{startsIn, placeOf, codeCount, codeAt, rowAt, rowOf, rowByNumber, rowOr0, accountsAt, accountsIn, policyCount, policyIn, policyAt};
 ghost use Rattle.book.specs.Promises.{ViewOf};
 ghost use Rattle.book.specs.Steps.{widthIn, readPolicies, readRows};
 
@@ -27,6 +25,15 @@ ghost use Rattle.book.specs.Steps.{widthIn, readPolicies, readRows};
 pub const PERMISSIONS: usize = 32;
 // Policies of a book at most.
 pub const POLICIES: usize = 32;
+
+// The first byte of a book whose rows have person numbers. No old book starts so: it would have too many permissions.
+const PERSONS: usize = 200;
+
+// What a book has: the rows of an old one have no person numbers, and each is a person of its own.
+pub enum Form {
+    Old,
+    Persons,
+}
 
 // What is wrong with a book. `number` gives the number that is published for each.
 pub enum Fault {
@@ -55,9 +62,10 @@ pub enum Reading {
     Refused(Fault, usize),
 }
 
-// A row of the book.
+// A row of the book, an account. Rows with the same person number are one person; in an old book it is the staff number.
 pub struct Row {
     pub staff: u32,
+    pub person: u32,
     pub holdings: u32,
 }
 
@@ -95,6 +103,18 @@ impl Fault {
             Fault::Task => 18,
             Fault::Policy(refusal) => refusal.number(),
             Fault::Excess => 19,
+        }
+    }
+}
+
+impl Form {
+    // Where the permissions start: after the leading byte, if there is one.
+    pub fn front(self) -> usize
+        ensures { λ r. ⌜ r ≡ front self ⌝ }
+    {
+        match self {
+            Form::Old => 0,
+            Form::Persons => 1,
         }
     }
 }
@@ -140,18 +160,36 @@ pub enum Place {
 
 // ---- the book
 
-// From the policies on; then nothing may follow.
-fn read_policies(book: &[u8], rows: usize, policies: usize) -> Reading
-    ensures { λ r. ⌜ r ≡ readPolicies (now (book .entry)) rows policies ⌝ }
+// The form, of any bytes.
+pub fn form_of(book: &[u8]) -> Form
+    ensures reply { λ r. ⌜ r ≡ formOf (now (book .entry)) ⌝ }
+    ensures kept { λ _. ⌜ now (book .exit) ≡ now (book .entry) ⌝ }
 {
-    match section_step(book, Section::Policies, count_at(book, 0), policies) {
+    if count_at(book, 0) == PERSONS {
+        return Form::Persons;
+    }
+    Form::Old
+}
+
+// From the policies on; then nothing may follow.
+fn read_policies(book: &[u8], form: Form, rows: usize, policies: usize) -> Reading
+    ensures { λ r. ⌜ r ≡ readPolicies form (now (book .entry)) rows policies ⌝ }
+{
+    let front = form.front();
+    match section_step(
+        book,
+        form,
+        Section::Policies,
+        count_at(book, front),
+        policies,
+    ) {
         Step::Refused(fault, place) => Reading::Refused(fault, place),
         Step::Next(end) => {
             if end < book.len() {
                 return Reading::Refused(Fault::Excess, end);
             }
             Reading::Good(Starts {
-                permissions: 0,
+                permissions: front,
                 rows: rows,
                 policies: policies,
             })
@@ -160,12 +198,18 @@ fn read_policies(book: &[u8], rows: usize, policies: usize) -> Reading
 }
 
 // From the rows on.
-fn read_rows(book: &[u8], rows: usize) -> Reading
-    ensures { λ r. ⌜ r ≡ readRows (now (book .entry)) rows ⌝ }
+fn read_rows(book: &[u8], form: Form, rows: usize) -> Reading
+    ensures { λ r. ⌜ r ≡ readRows form (now (book .entry)) rows ⌝ }
 {
-    match section_step(book, Section::Rows, count_at(book, 0), rows) {
+    match section_step(
+        book,
+        form,
+        Section::Rows,
+        count_at(book, form.front()),
+        rows,
+    ) {
         Step::Refused(fault, place) => Reading::Refused(fault, place),
-        Step::Next(policies) => read_policies(book, rows, policies),
+        Step::Next(policies) => read_policies(book, form, rows, policies),
     }
 }
 
@@ -174,9 +218,10 @@ pub fn read(book: &[u8]) -> Reading
     ensures reply { λ r. ⌜ r ≡ readOf (now (book .entry)) ⌝ }
     ensures kept { λ _. ⌜ now (book .exit) ≡ now (book .entry) ⌝ }
 {
-    match section_step(book, Section::Permissions, 0, 0) {
+    let form = form_of(book);
+    match section_step(book, form, Section::Permissions, 0, form.front()) {
         Step::Refused(fault, place) => Reading::Refused(fault, place),
-        Step::Next(rows) => read_rows(book, rows),
+        Step::Next(rows) => read_rows(book, form, rows),
     }
 }
 
@@ -198,13 +243,13 @@ pub fn starts_in(book: &[u8]) -> Starts
 }
 
 // Where the i-th entry of the section stands that starts here.
-fn place_of(book: &[u8], section: Section, start: usize, i: usize) -> Place
-    ensures { λ r. ⌜ r ≡ placeOf (widthIn section) (now (book .entry)) start i ⌝ }
+fn place_of(book: &[u8], form: Form, section: Section, start: usize, i: usize) -> Place
+    ensures { λ r. ⌜ r ≡ placeOf (widthIn form section) (now (book .entry)) start i ⌝ }
 {
     if i >= count_at(book, start) {
         return Place::Nothing;
     }
-    let wide = width(section);
+    let wide = width(form, section);
     let at = start + 1 + wide * i;
     if cut(book, at, wide) {
         return Place::Nothing;
@@ -226,7 +271,13 @@ pub fn code_at(book: &[u8], starts: Starts, i: usize) -> Coded
     ensures reply { λ r. ⌜ r ≡ codeAt (now (book .entry)) starts i ⌝ }
     ensures kept { λ _. ⌜ now (book .exit) ≡ now (book .entry) ⌝ }
 {
-    match place_of(book, Section::Permissions, starts.permissions, i) {
+    match place_of(
+        book,
+        form_of(book),
+        Section::Permissions,
+        starts.permissions,
+        i,
+    ) {
         Place::At(at) => Coded::Code(two(book, at) as u16),
         Place::Nothing => Coded::NoSuchCode,
     }
@@ -237,50 +288,55 @@ pub fn row_at(book: &[u8], starts: Starts, row: usize) -> Seen
     ensures reply { λ r. ⌜ r ≡ rowAt (now (book .entry)) starts row ⌝ }
     ensures kept { λ _. ⌜ now (book .exit) ≡ now (book .entry) ⌝ }
 {
-    match place_of(book, Section::Rows, starts.rows, row) {
-        Place::At(at) => Seen::Row(Row {
-            staff: four(book, at),
-            holdings: four(book, at + 4),
-        }),
+    let form = form_of(book);
+    match place_of(book, form, Section::Rows, starts.rows, row) {
+        Place::At(at) => Seen::Row(row_from(book, form, at)),
         Place::Nothing => Seen::NoSuchRow,
     }
 }
 
-// A row that is not there holds nothing.
-fn held_at(book: &[u8], starts: Starts, row: usize) -> u32
-    ensures { λ r. ⌜ r ≡ heldOr0 (rowAt (now (book .entry)) starts row) ⌝ }
+// A row that is not there has no numbers and holds nothing.
+fn row_or_0(book: &[u8], starts: Starts, row: usize) -> Row
+    ensures { λ r. ⌜ r ≡ rowOr0 (rowAt (now (book .entry)) starts row) ⌝ }
 {
     match row_at(book, starts, row) {
-        Seen::Row(seen) => seen.holdings,
-        Seen::NoSuchRow => 0,
+        Seen::Row(seen) => seen,
+        Seen::NoSuchRow => Row {
+            staff: 0,
+            person: 0,
+            holdings: 0,
+        },
     }
 }
 
-// The holdings of all rows.
-fn all_held(book: &[u8], starts: Starts) -> [u32; Policy::ROWS]
-    ensures { λ r. ⌜ r ≡ tabulate rowLimit (λ row. heldOr0 (rowAt (now (book .entry)) starts row)) ⌝ }
+// The accounts of a book whose sections start here.
+fn accounts_at(book: &[u8], starts: Starts) -> Accounts
+    ensures { λ r. ⌜ r ≡ accountsAt (now (book .entry)) starts ⌝ }
 {
-    let mut held = [0u32; Policy::ROWS];
+    let mut holdings = [0u32; Policy::ROWS];
+    let mut persons = [0u32; Policy::ROWS];
     let mut row = 0;
     while row < Policy::ROWS {
-        held[row] = held_at(book, starts, row);
+        let seen = row_or_0(book, starts, row);
+        holdings[row] = seen.holdings;
+        persons[row] = seen.person;
         row += 1;
     }
-    held
+    let rows = count_at(book, starts.rows);
+    Accounts {
+        holdings: holdings,
+        persons: persons,
+        rows: rows,
+    }
 }
 
-// The table of a book; a refused one has no rows.
-pub fn table_of(book: &[u8]) -> Table
-    ensures reply { λ r. ⌜ r ≡ tableOf (now (book .entry)) ⌝ }
+// The accounts of a book; a refused one has no rows.
+pub fn accounts_of(book: &[u8]) -> Accounts
+    ensures reply { λ r. ⌜ r ≡ accountsIn (now (book .entry)) ⌝ }
     ensures kept { λ _. ⌜ now (book .exit) ≡ now (book .entry) ⌝ }
 {
     let starts = starts_in(book);
-    let rows = count_at(book, starts.rows);
-    let held = all_held(book, starts);
-    Table {
-        holdings: held,
-        rows: rows,
-    }
+    accounts_at(book, starts)
 }
 
 // How many policies a book has; a refused one has none.
@@ -297,7 +353,7 @@ pub fn policy_in(book: &[u8], start: usize, i: usize) -> Listed
     ensures reply { λ r. ⌜ r ≡ policyIn (now (book .entry)) start i ⌝ }
     ensures kept { λ _. ⌜ now (book .exit) ≡ now (book .entry) ⌝ }
 {
-    match place_of(book, Section::Policies, start, i) {
+    match place_of(book, form_of(book), Section::Policies, start, i) {
         Place::At(at) => match policy_from(book, at) {
             Made::Policy(policy) => Listed::Policy(policy),
             Made::Refused(_) => Listed::NoSuchPolicy,

@@ -3,9 +3,11 @@
 use crate::Before;
 use crate::Cursor;
 use crate::Fault;
+use crate::Form;
 use crate::Look;
 use crate::PERMISSIONS;
 use crate::POLICIES;
+use crate::Row;
 use crate::Section;
 use crate::Step;
 use roster::Made;
@@ -14,13 +16,11 @@ ghost use mathlib.Core.Path.{_≡_};
 ghost use Prim.Native.Nat.{_+_, _<_, _^_};
 ghost use lib.Dec.{ltb};
 ghost use lib.ListN.{length, getD};
-ghost use Rattle.book.specs.Reading.{number, pastListed, rowLook, codes, rows, policies, entryLook};
+ghost use Rattle.book.specs.Reading.{number, pastListed, rowLook, width, codes, rowsOf, policies, entryAt, entryLook};
 ghost use Rattle.book.specs.Steps.{widthIn, leadIn, staysIn, outIn, countFaultIn, countLookIn, countIn, madeAt, lookIn, pastEntry, stepFrom, startAt, stepIn};
 
 // The widths of the entries, in bytes.
 const CODE_WIDTH: usize = 2;
-
-const ROW_WIDTH: usize = 8;
 
 const POLICY_WIDTH: usize = 7;
 
@@ -94,13 +94,23 @@ pub fn past_listed(listed: usize, set: u32) -> bool
 
 // ---- one count or one entry
 
+// A row's width, with its person number or without.
+pub fn row_width(form: Form) -> usize
+    ensures { λ r. ⌜ r ≡ width (rowsOf form) ⌝ }
+{
+    match form {
+        Form::Old => 8,
+        Form::Persons => 12,
+    }
+}
+
 // An entry's width.
-pub(crate) fn width(section: Section) -> usize
-    ensures { λ r. ⌜ r ≡ widthIn section ⌝ }
+pub(crate) fn width(form: Form, section: Section) -> usize
+    ensures { λ r. ⌜ r ≡ widthIn form section ⌝ }
 {
     match section {
         Section::Permissions => CODE_WIDTH,
-        Section::Rows => ROW_WIDTH,
+        Section::Rows => row_width(form),
         Section::Policies => POLICY_WIDTH,
     }
 }
@@ -195,17 +205,39 @@ pub fn row_look(low: bool, beyond: bool) -> Look
     Look::Sound
 }
 
+// The row whose fields stand here. An old one has no person number: its staff number stands for it.
+pub(crate) fn row_from(book: &[u8], form: Form, at: usize) -> Row
+    requires { ⌜ at + width (rowsOf form) < 2 ^ 64 ⌝ }
+    ensures { λ r. ⌜ r ≡ entryAt (rowsOf form) (now (book .entry)) at ⌝ }
+{
+    let staff = four(book, at);
+    let second = four(book, at + 4);
+    match form {
+        Form::Old => Row {
+            staff: staff,
+            person: staff,
+            holdings: second,
+        },
+        Form::Persons => Row {
+            staff: staff,
+            person: second,
+            holdings: four(book, at + 8),
+        },
+    }
+}
+
 // A row.
-fn look_row(book: &[u8], listed: usize, cursor: Cursor) -> Look
-    ensures { λ r. ⌜ r ≡ entryLook rows (now (book .entry)) listed (cursor .before) (cursor .at) ⌝ }
+fn look_row(book: &[u8], form: Form, listed: usize, cursor: Cursor) -> Look
+    ensures { λ r. ⌜ r ≡ entryLook (rowsOf form) (now (book .entry)) listed (cursor .before) (cursor .at) ⌝ }
 {
     let at = cursor.at;
-    if cut(book, at, ROW_WIDTH) {
+    if cut(book, at, row_width(form)) {
         return Look::Faulty(Fault::Short);
     }
+    let row = row_from(book, form, at);
     row_look(
         stays(book, Section::Rows, cursor),
-        past_listed(listed, four(book, at + 4)),
+        past_listed(listed, row.holdings),
     )
 }
 
@@ -238,12 +270,12 @@ fn look_policy(book: &[u8], listed: usize, at: usize) -> Look
 }
 
 // An entry of the section.
-fn look_entry(book: &[u8], section: Section, listed: usize, cursor: Cursor) -> Look
-    ensures { λ r. ⌜ r ≡ lookIn section (now (book .entry)) listed (cursor .before) (cursor .at) ⌝ }
+fn look_entry(book: &[u8], form: Form, section: Section, listed: usize, cursor: Cursor) -> Look
+    ensures { λ r. ⌜ r ≡ lookIn form section (now (book .entry)) listed (cursor .before) (cursor .at) ⌝ }
 {
     match section {
         Section::Permissions => look_code(book, cursor),
-        Section::Rows => look_row(book, listed, cursor),
+        Section::Rows => look_row(book, form, listed, cursor),
         Section::Policies => look_policy(book, listed, cursor.at),
     }
 }
@@ -264,17 +296,24 @@ impl Cursor {
 }
 
 // The section's entries, from the first one's place on.
-fn entries(book: &[u8], section: Section, listed: usize, at: usize, count: usize) -> Step
-    ensures { λ r. ⌜ r ≡ stepFrom (lookIn section (now (book .entry)) listed) (widthIn section) (startAt at) count ⌝ }
+fn entries(
+    book: &[u8],
+    form: Form,
+    section: Section,
+    listed: usize,
+    at: usize,
+    count: usize,
+) -> Step
+    ensures { λ r. ⌜ r ≡ stepFrom (lookIn form section (now (book .entry)) listed) (widthIn form section) (startAt at) count ⌝ }
 {
-    let wide = width(section);
+    let wide = width(form, section);
     let mut cursor = Cursor {
         before: Before::Nothing,
         at: at,
     };
     let mut left = count;
     while left > 0 {
-        match look_entry(book, section, listed, cursor) {
+        match look_entry(book, form, section, listed, cursor) {
             Look::Faulty(fault) => {
                 return Step::Refused(fault, cursor.at);
             }
@@ -287,11 +326,17 @@ fn entries(book: &[u8], section: Section, listed: usize, at: usize, count: usize
 }
 
 // The section that starts here: its count, then its entries.
-pub(crate) fn section_step(book: &[u8], section: Section, listed: usize, at: usize) -> Step
-    ensures { λ r. ⌜ r ≡ stepIn section (now (book .entry)) listed at ⌝ }
+pub(crate) fn section_step(
+    book: &[u8],
+    form: Form,
+    section: Section,
+    listed: usize,
+    at: usize,
+) -> Step
+    ensures { λ r. ⌜ r ≡ stepIn form section (now (book .entry)) listed at ⌝ }
 {
     match look_count(book, section, at) {
         Look::Faulty(fault) => Step::Refused(fault, at),
-        Look::Sound => entries(book, section, listed, at + 1, count_at(book, at)),
+        Look::Sound => entries(book, form, section, listed, at + 1, count_at(book, at)),
     }
 }

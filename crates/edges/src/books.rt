@@ -1,4 +1,5 @@
-// A book as cases write it, entry by entry: `count 2 code 10 code 20 count 1 row 101 3 count 1 policy 3 1 2 2`, with `byte 0` for any byte and `cut
+// A book as cases write it, entry by entry: `count 2 code 10 code 20 count 1 row 101 3 count 1 policy 3 1 2 2`, with `account 101 7 3` for a
+// row that has a person number, `byte 0` for any byte and `cut
 // 13` for the first 13 bytes of what stands before. Some have names: `B`, `listed`, `longest`, `permissions 31` for the codes from 0 to 30, `file
 // weekend.book` for what that file has.
 use crate::draft::Draft;
@@ -83,6 +84,13 @@ fn with_entry(book: Draft, text: &[u8], at: usize) -> Draft {
     }
     if is_word(text, at, b"row") {
         return book.row(narrow(first), narrow(argument(text, at, 2)));
+    }
+    if is_word(text, at, b"account") {
+        return book.account(
+            narrow(first),
+            narrow(argument(text, at, 2)),
+            narrow(argument(text, at, 3)),
+        );
     }
     if is_word(text, at, b"policy") {
         return book.policy(

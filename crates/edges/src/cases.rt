@@ -1,11 +1,11 @@
 // The cases stand in files, in groups: a line `# NAME`, and below it a line for each case, `QUESTION = WANTED`. Lines that begin with a space, and
 // empty ones, are passed over.
+use crate::asked;
 use crate::books::book_at;
 use crate::books::load;
 use crate::line::Line;
 use crate::pages;
 use crate::parts;
-use crate::questions;
 use crate::reader;
 use crate::sheets;
 use crate::words::after;
@@ -56,13 +56,13 @@ impl Outcome {
 fn came(text: &[u8], at: usize, wanted: usize) -> Line {
     let asked = next_word(text, at);
     if is_word(text, at, b"skipping") {
-        return questions::skipping(text, asked);
+        return asked::skipping(text, asked);
     }
     if is_word(text, at, b"full") {
-        return questions::full(text, asked);
+        return asked::full(text, asked);
     }
     if is_word(text, at, b"named") {
-        return questions::named(text, asked);
+        return asked::named(text, asked);
     }
     if is_word(text, at, b"book") {
         return reader::read(book_at(text, asked));
@@ -90,8 +90,8 @@ fn came_of_part(text: &[u8], at: usize) -> Line {
     if is_word(text, at, b"row") {
         return parts::row(text, asked);
     }
-    if is_word(text, at, b"table") {
-        return parts::table(text, at);
+    if is_word(text, at, b"accounts") {
+        return parts::accounts(text, at);
     }
     if is_word(text, at, b"policies") {
         return parts::policy_count(text, at);
@@ -110,8 +110,8 @@ fn outcome_of(text: &[u8], at: usize) -> Outcome {
         return reader::cuts(text, asked);
     }
     if is_word(text, at, b"both") {
-        let skipping = questions::skipping(text, asked);
-        let full = questions::full(text, asked);
+        let skipping = asked::skipping(text, asked);
+        let full = asked::full(text, asked);
         return Outcome::none()
             .noted(skipping.is_at(text, wanted), skipping)
             .noted(full.is_at(text, wanted), full);

@@ -1,7 +1,7 @@
 // A roster book in the making, entry by entry, by the published layout: a count in one byte before each section, numbers little endian.
 
 // One byte more than the longest book and some besides.
-pub const ROOM: usize = 900;
+pub const ROOM: usize = 1100;
 
 // The first `length` bytes are the book.
 pub struct Draft {
@@ -63,6 +63,11 @@ impl Draft {
     // A row.
     pub(crate) fn row(self, staff: u32, holdings: u32) -> Draft {
         self.four(staff).four(holdings)
+    }
+
+    // A row of a new book, with its person number.
+    pub(crate) fn account(self, staff: u32, person: u32, holdings: u32) -> Draft {
+        self.four(staff).four(person).four(holdings)
     }
 
     // A policy.
@@ -128,7 +133,7 @@ fn all_policies(book: Draft) -> Draft {
     policies
 }
 
-// As long as a book can be: 32 permissions, 64 rows and 32 policies.
+// As long as an old book can be: 32 permissions, 64 rows and 32 policies.
 pub(crate) fn longest() -> Draft {
     all_policies(all_rows(permissions_to(32)))
 }

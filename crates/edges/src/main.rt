@@ -2,13 +2,13 @@
 // is compared with one that is written out in data/*.cases, and never made by the code under test. For each group of cases it prints how many
 // comparisons were made and how many differ, which has to be none; of the cases that are wrong on purpose (planted.cases) all differ, and of those
 // the first is shown as any that differs would be.
+mod asked;
 mod books;
 mod cases;
 mod draft;
 mod line;
 mod pages;
 mod parts;
-mod questions;
 mod reader;
 mod sheets;
 mod words;

@@ -1,4 +1,5 @@
-// The writer of a book, as cases ask it. `writes VALUES room 61`, with the values entry by entry, `code 10 code 20 row 101 3 policy 3 1 2 2`; `codes 33`,
+// The writer of a book, as cases ask it. `writes VALUES room 61`, with the values entry by entry, `code 10 code 20 row 101 3 policy 3 1 2 2`; `account 101 7 3` is a row with a
+// person number, `persons` and `old` say the form, `codes 33`,
 // `rows 65` and `policies 33` say a count by itself, and `of B` or `of file weekend.book` takes the values of that book. What comes is the length and
 // the bytes, or the number and the place. `again BOOK` reads a book and writes it. Every byte that is not the book's has to be as it was.
 use crate::books::argument;
@@ -16,6 +17,7 @@ use crate::words::is_word;
 use crate::words::narrow;
 use crate::words::next_word;
 use crate::words::number_at;
+use book::Form;
 use book::Row;
 use roster::Policy;
 use values::Values;
@@ -61,20 +63,32 @@ fn values_of(book: Draft) -> Values {
     values::of_book(front(&bytes, book.length))
 }
 
+// The row that stands here: `account 101 7 3`, or `row 101 3`, whose person number is the staff number.
+fn row_at(text: &[u8], at: usize) -> Row {
+    let staff = narrow(argument(text, at, 1));
+    let second = narrow(argument(text, at, 2));
+    if is_word(text, at, b"account") {
+        return Row {
+            staff: staff,
+            person: second,
+            holdings: narrow(argument(text, at, 3)),
+        };
+    }
+    Row {
+        staff: staff,
+        person: staff,
+        holdings: second,
+    }
+}
+
 // The values with the entry that stands here. A number stands for none: it belongs to the word before it.
 fn with_entry(values: Values, text: &[u8], at: usize) -> Values {
     let first = argument(text, at, 1);
     if is_word(text, at, b"code") {
         return with_code(values, first);
     }
-    if is_word(text, at, b"row") {
-        return with_row(
-            values,
-            Row {
-                staff: narrow(first),
-                holdings: narrow(argument(text, at, 2)),
-            },
-        );
+    if is_word(text, at, b"row") || is_word(text, at, b"account") {
+        return with_row(values, row_at(text, at));
     }
     if is_word(text, at, b"policy") {
         return with_policy(
@@ -93,8 +107,30 @@ fn with_entry(values: Values, text: &[u8], at: usize) -> Values {
     with_count(values, text, at)
 }
 
-// The values with the count that stands here.
+// The values in this form.
+fn in_form(values: Values, form: Form) -> Values {
+    let codes = values.codes;
+    let rows = values.rows;
+    let policies = values.policies;
+    Values {
+        form: form,
+        codes: codes,
+        code_count: values.code_count,
+        rows: rows,
+        row_count: values.row_count,
+        policies: policies,
+        policy_count: values.policy_count,
+    }
+}
+
+// The values with the form or the count that stands here.
 fn with_count(values: Values, text: &[u8], at: usize) -> Values {
+    if is_word(text, at, b"old") {
+        return in_form(values, Form::Old);
+    }
+    if is_word(text, at, b"persons") {
+        return in_form(values, Form::Persons);
+    }
     let mut next = values;
     let count = argument(text, at, 1) as usize;
     if is_word(text, at, b"codes") {

@@ -1,4 +1,4 @@
-// The parts of a book, as cases ask for them: `row 0 of BOOK`, `table of BOOK`, `policies of BOOK`, `policy 0 of BOOK`. Past the last row or policy
+// The parts of a book, as cases ask for them: `row 0 of BOOK`, `accounts of BOOK`, `policies of BOOK`, `policy 0 of BOOK`. Past the last row or policy
 // there is `none`, and a refused book has none.
 use crate::books::book_at;
 use crate::draft::front;
@@ -8,7 +8,7 @@ use crate::words::number_at;
 use book::Listed;
 use book::Seen;
 
-// The row with the number that stands here, by the view: its staff number and its holdings.
+// The row with the number that stands here, by the view: its staff number, its person number and its holdings.
 pub(crate) fn row(text: &[u8], at: usize) -> Line {
     let book = book_at(text, behind(text, at, b"of"));
     let row = number_at(text, at).value as usize;
@@ -16,6 +16,8 @@ pub(crate) fn row(text: &[u8], at: usize) -> Line {
     match book::row_by_number(front(&bytes, book.length), row) {
         Seen::Row(found) => Line::empty()
             .number(wide(found.staff))
+            .byte(b' ')
+            .number(wide(found.person))
             .byte(b' ')
             .number(wide(found.holdings)),
         Seen::NoSuchRow => Line::empty().word(b"none"),
@@ -26,17 +28,25 @@ fn wide(n: u32) -> u64 {
     n as u64
 }
 
-// The number of rows of the book's table, and the holdings in its first five places and in the last.
-pub(crate) fn table(text: &[u8], at: usize) -> Line {
+// The number of rows of the book's accounts, and what stands in their first five places and in the last: the holdings and the person number.
+pub(crate) fn accounts(text: &[u8], at: usize) -> Line {
     let book = book_at(text, behind(text, at, b"of"));
     let bytes = book.bytes;
-    let table = book::table_of(front(&bytes, book.length));
-    let held = table.holdings;
-    let mut line = Line::empty().number(table.rows as u64);
+    let accounts = book::accounts_of(front(&bytes, book.length));
+    let held = accounts.holdings;
+    let persons = accounts.persons;
+    let mut line = Line::empty().number(accounts.rows as u64);
     for row in 0..5 {
-        line = line.byte(b' ').number(wide(held[row]));
+        line = with_account(line, held[row], persons[row]);
     }
-    line.byte(b' ').number(wide(held[63]))
+    with_account(line, held[63], persons[63])
+}
+
+fn with_account(line: Line, holdings: u32, person: u32) -> Line {
+    line.byte(b' ')
+        .number(wide(holdings))
+        .byte(b':')
+        .number(wide(person))
 }
 
 pub(crate) fn policy_count(text: &[u8], at: usize) -> Line {

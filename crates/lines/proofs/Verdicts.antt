@@ -27,11 +27,11 @@ no-word Crews k = refl
 no-word None k = refl
 no-word (Refused refusal) k = refl
 
-pub no-sets : (staff : List ℕ) (reply : Reply) (v : Verdict) → OneOf without-a-set (tagOf the-type v) → setsText staff reply v ≡ dash ∷ []
+pub no-sets : (numbers : List ℕ) (reply : Reply) (v : Verdict) → OneOf without-a-set (tagOf the-type v) → setsText numbers reply v ≡ dash ∷ []
 unfolding setsText
-no-sets staff reply Yes k = absurd (miss without-a-set 0 tt k)
-no-sets staff reply No k = absurd (miss without-a-set 1 tt k)
-no-sets staff reply Undecided k = refl
-no-sets staff reply Crews k = refl
-no-sets staff reply None k = refl
-no-sets staff reply (Refused refusal) k = refl
+no-sets numbers reply Yes k = absurd (miss without-a-set 0 tt k)
+no-sets numbers reply No k = absurd (miss without-a-set 1 tt k)
+no-sets numbers reply Undecided k = refl
+no-sets numbers reply Crews k = refl
+no-sets numbers reply None k = refl
+no-sets numbers reply (Refused refusal) k = refl

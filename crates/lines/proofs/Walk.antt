@@ -14,26 +14,26 @@ use Rattle.lines.specs.Lines.{names, betweenMembers, setText, filled, be
 
 -- ---- members
 
-pub names-none : (staff : List ℕ) → names staff 0 ≡ []
+pub names-none : (numbers : List ℕ) → names numbers 0 ≡ []
 unfolding names
-names-none staff = ap (map (λ row. decimal (getD staff row 0))) (members-empty 64)
+names-none numbers = ap (map (λ row. decimal (getD numbers row 0))) (members-empty 64)
 
-names-next : (staff : List ℕ) (set : ℕ) → set < 2 ^ 64 → set ≢ 0
-    → names staff set ≡ decimal (getD staff (trailingZeros 64 set) 0) ∷ names staff (bitXor set (2 ^ trailingZeros 64 set))
+names-next : (numbers : List ℕ) (set : ℕ) → set < 2 ^ 64 → set ≢ 0
+    → names numbers set ≡ decimal (getD numbers (trailingZeros 64 set) 0) ∷ names numbers (bitXor set (2 ^ trailingZeros 64 set))
 unfolding names
-names-next staff set h n = ap (map (λ row. decimal (getD staff row 0))) (members-least 64 set h n)
+names-next numbers set h n = ap (map (λ row. decimal (getD numbers row 0))) (members-least 64 set h n)
 
 -- the least member after its mark, then the others
-pub member-next : (staff : List ℕ) (mark set row : ℕ) → set < 2 ^ 64 → set ≢ 0 → row ≡ trailingZeros 64 set
-    → marked mark betweenMembers (names staff set) ≡ (mark ∷ decimal (getD staff row 0)) ++ marked betweenMembers betweenMembers (names staff (bitXor set (2 ^ row)))
+pub member-next : (numbers : List ℕ) (mark set row : ℕ) → set < 2 ^ 64 → set ≢ 0 → row ≡ trailingZeros 64 set
+    → marked mark betweenMembers (names numbers set) ≡ (mark ∷ decimal (getD numbers row 0)) ++ marked betweenMembers betweenMembers (names numbers (bitXor set (2 ^ row)))
 unfolding marked
-member-next staff mark set row h n e =
-    ap (marked mark betweenMembers) (names-next staff set h n)
-    ∙ ap (λ (u : ℕ). (mark ∷ decimal (getD staff u 0)) ++ marked betweenMembers betweenMembers (names staff (bitXor set (2 ^ u)))) (sym e)
+member-next numbers mark set row h n e =
+    ap (marked mark betweenMembers) (names-next numbers set h n)
+    ∙ ap (λ (u : ℕ). (mark ∷ decimal (getD numbers u 0)) ++ marked betweenMembers betweenMembers (names numbers (bitXor set (2 ^ u)))) (sym e)
 
-pub member-last : (staff : List ℕ) (mark : ℕ) → marked mark betweenMembers (names staff 0) ≡ []
+pub member-last : (numbers : List ℕ) (mark : ℕ) → marked mark betweenMembers (names numbers 0) ≡ []
 unfolding marked
-member-last staff mark = ap (marked mark betweenMembers) (names-none staff)
+member-last numbers mark = ap (marked mark betweenMembers) (names-none numbers)
 
 -- ---- a mark and then the joined list is the list that begins with the mark
 
@@ -42,14 +42,14 @@ unfolding marked joined
 mark-joined mark between [] n = absurd (n refl)
 mark-joined mark between (x ∷ l) n = refl
 
-pub some-names : (staff : List ℕ) (set : ℕ) → set < 2 ^ 64 → set ≢ 0 → length (names staff set) ≢ 0
-some-names staff set h n z = let e = ap length (names-next staff set h n) in omega arith
+pub some-names : (numbers : List ℕ) (set : ℕ) → set < 2 ^ 64 → set ≢ 0 → length (names numbers set) ≢ 0
+some-names numbers set h n z = let e = ap length (names-next numbers set h n) in omega arith
 
 -- ---- crews
 
 -- what is to be written of the crews from j on
 abbrev pub crewsFrom : List ℕ → List ℕ → ℕ → ℕ → List ℕ
-crewsFrom staff crews mark j = marked mark betweenCrews (map (setText staff) (filled (drop j crews)))
+crewsFrom numbers crews mark j = marked mark betweenCrews (map (setText numbers) (filled (drop j crews)))
 
 filled-next : (crew : ℕ) (l : List ℕ) → crew ≢ 0 → filled (crew ∷ l) ≡ crew ∷ filled l
 unfolding filled
@@ -61,21 +61,21 @@ unfolding filled
 filled-stop crew l e = ap (λ (x : ℕ). filled (x ∷ l)) e
 
 -- a crew after its mark, then the others
-pub crew-next : (staff crews : List ℕ) (mark j : ℕ) → j < length crews → getD crews j 0 < 2 ^ 64 → getD crews j 0 ≢ 0
-    → crewsFrom staff crews mark j ≡ marked mark betweenMembers (names staff (getD crews j 0)) ++ crewsFrom staff crews betweenCrews (suc j)
+pub crew-next : (numbers crews : List ℕ) (mark j : ℕ) → j < length crews → getD crews j 0 < 2 ^ 64 → getD crews j 0 ≢ 0
+    → crewsFrom numbers crews mark j ≡ marked mark betweenMembers (names numbers (getD crews j 0)) ++ crewsFrom numbers crews betweenCrews (suc j)
 unfolding marked
-crew-next staff crews mark j l h n =
-    ap (λ (s : List ℕ). marked mark betweenCrews (map (setText staff) s)) (ap filled (drop-cons crews j 0 l) ∙ filled-next (getD crews j 0) (drop (suc j) crews) n)
-    ∙ ap (λ (s : List ℕ). s ++ crewsFrom staff crews betweenCrews (suc j))
-    (mark-joined mark betweenMembers (names staff (getD crews j 0)) (some-names staff (getD crews j 0) h n))
+crew-next numbers crews mark j l h n =
+    ap (λ (s : List ℕ). marked mark betweenCrews (map (setText numbers) s)) (ap filled (drop-cons crews j 0 l) ∙ filled-next (getD crews j 0) (drop (suc j) crews) n)
+    ∙ ap (λ (s : List ℕ). s ++ crewsFrom numbers crews betweenCrews (suc j))
+    (mark-joined mark betweenMembers (names numbers (getD crews j 0)) (some-names numbers (getD crews j 0) h n))
 
 -- an empty one is the end, and so is the end of the list
-pub crew-stop : (staff crews : List ℕ) (mark j : ℕ) → j < length crews → getD crews j 0 ≡ 0 → crewsFrom staff crews mark j ≡ []
+pub crew-stop : (numbers crews : List ℕ) (mark j : ℕ) → j < length crews → getD crews j 0 ≡ 0 → crewsFrom numbers crews mark j ≡ []
 unfolding marked
-crew-stop staff crews mark j l e =
-    ap (λ (s : List ℕ). marked mark betweenCrews (map (setText staff) s)) (ap filled (drop-cons crews j 0 l) ∙ filled-stop (getD crews j 0) (drop (suc j) crews) e)
+crew-stop numbers crews mark j l e =
+    ap (λ (s : List ℕ). marked mark betweenCrews (map (setText numbers) s)) (ap filled (drop-cons crews j 0 l) ∙ filled-stop (getD crews j 0) (drop (suc j) crews) e)
 
-pub crew-last : (staff crews : List ℕ) (mark j : ℕ) → length crews ≤ j → crewsFrom staff crews mark j ≡ []
+pub crew-last : (numbers crews : List ℕ) (mark j : ℕ) → length crews ≤ j → crewsFrom numbers crews mark j ≡ []
 unfolding marked filled
-crew-last staff crews mark j l =
-    ap (λ (s : List ℕ). marked mark betweenCrews (map (setText staff) (filled s))) (drop-of-length-le crews l)
+crew-last numbers crews mark j l =
+    ap (λ (s : List ℕ). marked mark betweenCrews (map (setText numbers) (filled s))) (drop-of-length-le crews l)

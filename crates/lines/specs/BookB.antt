@@ -1,17 +1,23 @@
--- 01's book B: its whole sheet, and those of the two refused books, by running the definitions from the bytes on; and that of a book that asks
--- nothing.
-use mathlib.Core.Path.{_≡_, refl}
-use mathlib.Core.List.{[], _∷_, _++_}
+-- 01's book B: its whole sheet, that of the same staff as a new book, those of the two refused books, and that of a book that asks nothing. The
+-- persons and the searches are computed by running the definitions; `sheet-laid` says that the sheet of a book's bytes is that of its values.
+use mathlib.Core.Path.{_≡_, refl, sym, ap, _∙_}
+use mathlib.Core.List.{List, [], _∷_, _++_}
+use Prim.Native.Nat.{ℕ}
+use native.Mathlib.Omega.{arith}
 use lib.Count.{ones, onesIn, trailingZeros}
 use Rattle.sets.specs.Sets.{bit}
 use Rattle.sets.specs.Sums.{sumTo, toN}
 use Rattle.sets.specs.Members.{cons?, members, filter, hasb, setOf}
 use Rattle.roster.specs.Meaning.{outweighsb, ahead, rank}
-use Rattle.roster.specs.Refusals.{policyRuling}
+use Rattle.roster.specs.Refusals.{policyRuling, ownRuling}
+use Rattle.roster.specs.declared.Policy.{Policy}
+use Rattle.roster.specs.declared.Ruling.the-variants as ruling
 use Rattle.crews.specs.Filling.{placeOf, closeOf, placedOf, candidates, tryEach, search}
 use Rattle.sets.specs.Arrays.{tabulate}
 use Rattle.absences.specs.Tried.{rowFrom, joins, listed, sizesFrom, weighed}
 use Rattle.absences.specs.Replied.{policyReplyOf}
+use Rattle.accounts.specs.declared.People.{People}
+use Rattle.accounts.specs.Persons.{first, unionTo, firstOf, leads, countOf, personOf, heldBy, numberOf, peopleOf}
 use Rattle.book.specs.Reading.{
   number,
   fieldsAt,
@@ -20,32 +26,125 @@ use Rattle.book.specs.Reading.{
   inTurn,
   sectionLooks,
   past,
+  formOf,
   firstFault,
   readOf,
 }
-use Rattle.book.specs.Parts.{startsIn, tableOf, policyCount, policyAt}
-use Rattle.book.specs.Parts.{placeOf as Parts·placeOf}
-use Rattle.book.specs.Cases.{bookB}
+use Rattle.book.specs.Layout.{Each, Below, Ascends, PolicyFits, Admitted}
+use Rattle.book.specs.Parts.{startsIn, policyCount}
+use Rattle.book.specs.Promises.{accountsFor}
+use Rattle.book.specs.Cases.{policiesB, valuesB, bookB, b-bytes, valuesNewB, newB, new-b-bytes}
 use Rattle.text.specs.Text.{quoted, decimalIn, decimal, marked, joined}
 use Rattle.lines.specs.Lines.{verdictWord, names, filled, setsText, lineOf, badLine}
-use Rattle.lines.specs.Sheet.{staffOf, replyTo, lineBy, linesFrom, sheetBy, sheetOf}
+use Rattle.lines.specs.Sheet.{linesFrom, sheetBy, sheetOf}
+use Rattle.lines.specs.Laws.Laid.{linesOver, sheet-laid}
+
+-- ---- B and the new B are laid out
+
+b-policies : Each (PolicyFits 2) policiesB
+unfolding Each policyRuling
+b-policies =
+    let fits : (p : Policy) → p .task ≡ 3 → ownRuling p ≡ ruling.Admitted → PolicyFits 2 p = λ p e h. record { task = omega arith; sound = h } in
+    (fits _ refl refl, (fits _ refl refl, (fits _ refl refl, tt)))
+
+b-admitted : Admitted valuesB
+unfolding Each Below Ascends
+b-admitted = record {
+  some = omega arith;
+  permissions = omega arith;
+  rows = omega arith;
+  policies = omega arith;
+  codes = (omega arith, (omega arith, tt));
+  codesAscend = (omega arith, (tt, tt));
+  staff = (omega arith, (omega arith, (omega arith, (omega arith, tt))));
+  staffAscends = (omega arith, (omega arith, (omega arith, (tt, tt))));
+  persons = (omega arith, (omega arith, (omega arith, (omega arith, tt))));
+  own = (refl, (refl, (refl, (refl, tt))));
+  holdings = (omega arith, (omega arith, (omega arith, (omega arith, tt))));
+  sound = b-policies;
+}
+
+new-b-admitted : Admitted valuesNewB
+unfolding Each Below Ascends
+new-b-admitted = record {
+  some = omega arith;
+  permissions = omega arith;
+  rows = omega arith;
+  policies = omega arith;
+  codes = (omega arith, (omega arith, tt));
+  codesAscend = (omega arith, (tt, tt));
+  staff = (omega arith, (omega arith, (omega arith, (omega arith, tt))));
+  staffAscends = (omega arith, (omega arith, (omega arith, (tt, tt))));
+  persons = (omega arith, (omega arith, (omega arith, (omega arith, tt))));
+  own = (tt, (tt, (tt, (tt, tt))));
+  holdings = (omega arith, (omega arith, (omega arith, (omega arith, tt))));
+  sound = b-policies;
+}
+
+-- ---- their persons
+
+abbrev noMore : ℕ → List ℕ
+noMore n = tabulate n (λ i. 0)
+
+-- every row its own person
+abbrev peopleB : People
+peopleB = record {
+  table = record { holdings = 3 ∷ 1 ∷ 2 ∷ 3 ∷ noMore 60; rows = 4 };
+  numbers = 101 ∷ 102 ∷ 103 ∷ 104 ∷ noMore 60;
+}
+
+people-b : peopleOf (accountsFor valuesB) ≡ peopleB
+unfolding sumTo toN tabulate first unionTo firstOf leads countOf personOf heldBy numberOf
+people-b = refl
+
+-- 102 and 103 are one person, who holds both permissions
+abbrev peopleNewB : People
+peopleNewB = record {
+  table = record { holdings = 3 ∷ 3 ∷ 3 ∷ noMore 61; rows = 3 };
+  numbers = 7 ∷ 8 ∷ 9 ∷ noMore 61;
+}
+
+people-new-b : peopleOf (accountsFor valuesNewB) ≡ peopleNewB
+unfolding sumTo toN tabulate first unionTo firstOf leads countOf personOf heldBy numberOf
+people-new-b = refl
+
+-- ---- their lines
+
+lines-of-b : linesOver peopleB 0 policiesB ≡ quoted "0 yes 8 101/102,103\n1 no 11 101,104\n2 no 6 -\n"
+unfolding bit sumTo toN cons? members filter hasb setOf ones onesIn trailingZeros policyRuling ahead rank outweighsb placeOf closeOf placedOf candidates tryEach search rowFrom joins listed sizesFrom weighed policyReplyOf tabulate decimalIn decimal marked joined verdictWord names filled setsText lineOf linesOver
+lines-of-b = refl
+
+lines-of-new-b : linesOver peopleNewB 0 policiesB ≡ quoted "0 yes 6 7/8\n1 no 8 7,8\n2 yes 4 7/8/9\n"
+unfolding bit sumTo toN cons? members filter hasb setOf ones onesIn trailingZeros policyRuling ahead rank outweighsb placeOf closeOf placedOf candidates tryEach search rowFrom joins listed sizesFrom weighed policyReplyOf tabulate decimalIn decimal marked joined verdictWord names filled setsText lineOf linesOver
+lines-of-new-b = refl
+
+-- ---- their sheets
 
 -- "Output, whole"
 pub sheet-b : sheetOf bookB ≡ quoted "0 yes 8 101/102,103\n1 no 11 101,104\n2 no 6 -\n"
-unfolding bit sumTo toN cons? members filter hasb setOf ones onesIn trailingZeros policyRuling ahead rank outweighsb placeOf closeOf placedOf candidates tryEach search rowFrom joins listed sizesFrom weighed policyReplyOf number fieldsAt countLook entryLook inTurn sectionLooks past firstFault readOf startsIn Parts·placeOf tabulate tableOf policyCount policyAt decimalIn decimal marked joined verdictWord names filled setsText lineOf badLine staffOf replyTo lineBy linesFrom sheetBy sheetOf
-sheet-b = refl
+sheet-b =
+    sheet-laid valuesB bookB (record { admitted = b-admitted; bytes = sym b-bytes })
+    ∙ ap (λ (people : People). linesOver people 0 policiesB) people-b
+    ∙ lines-of-b
+
+-- the third policy turns from no to yes, where one person holds both permissions
+pub sheet-new-b : sheetOf newB ≡ quoted "0 yes 6 7/8\n1 no 8 7,8\n2 yes 4 7/8/9\n"
+sheet-new-b =
+    sheet-laid valuesNewB newB (record { admitted = new-b-admitted; bytes = sym new-b-bytes })
+    ∙ ap (λ (people : People). linesOver people 0 policiesB) people-new-b
+    ∙ lines-of-new-b
 
 -- "B with one byte added prints `bad 19 60`"
 pub sheet-b-longer : sheetOf (bookB ++ (0 ∷ [])) ≡ quoted "bad 19 60\n"
-unfolding policyRuling number fieldsAt countLook entryLook inTurn sectionLooks past firstFault readOf decimalIn decimal marked joined badLine sheetBy sheetOf
+unfolding policyRuling number fieldsAt countLook entryLook inTurn sectionLooks past formOf firstFault readOf decimalIn decimal marked joined badLine sheetBy sheetOf
 sheet-b-longer = refl
 
 -- "no input prints `bad 11 0`"
 pub sheet-no-input : sheetOf [] ≡ quoted "bad 11 0\n"
-unfolding policyRuling number fieldsAt countLook entryLook inTurn sectionLooks past firstFault readOf decimalIn decimal marked joined badLine sheetBy sheetOf
+unfolding policyRuling number fieldsAt countLook entryLook inTurn sectionLooks past formOf firstFault readOf decimalIn decimal marked joined badLine sheetBy sheetOf
 sheet-no-input = refl
 
 -- a book with one permission, no rows and no policies prints nothing
 pub sheet-no-policies : sheetOf (1 ∷ 10 ∷ 0 ∷ 0 ∷ 0 ∷ []) ≡ []
-unfolding policyRuling number fieldsAt countLook entryLook inTurn sectionLooks past firstFault readOf startsIn policyCount linesFrom sheetBy sheetOf
+unfolding policyRuling number fieldsAt countLook entryLook inTurn sectionLooks past formOf firstFault readOf startsIn policyCount linesFrom sheetBy sheetOf
 sheet-no-policies = refl

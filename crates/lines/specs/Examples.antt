@@ -29,7 +29,7 @@ pub line-examples :
     × (lineOf people 0 (replyWith noCrews (2 ^ 64 - 1) 5 allowance No) ≡ quoted "0 no 5 " ++ joined comma (map decimal people) ++ quoted "\n")
     -- "undecided" has spent the allowance
     × (lineOf people 3 (replyWith noCrews 0 0 allowance Undecided) ≡ quoted "3 undecided 1000000 -\n")
-    -- the least and the largest staff number
+    -- the least and the largest number
     × (lineOf (0 ∷ 4294967295 ∷ []) 0 (replyWith noCrews 3 4 allowance No) ≡ quoted "0 no 4 0,4294967295\n")
     -- refused books
     × (badLine 2 11 ≡ quoted "bad 2 11\n")

@@ -20,9 +20,9 @@ verdictWord Crews = []
 verdictWord None = []
 verdictWord (Refused refusal) = []
 
--- "Members are staff numbers in row order"
+-- "Members are staff numbers in row order": the number of each person, in person order
 unfoldable pub names : List ℕ → ℕ → List (List ℕ)
-names staff set = map (λ row. decimal (getD staff row 0)) (members 0 rowLimit set)
+names numbers set = map (λ person. decimal (getD numbers person 0)) (members 0 rowLimit set)
 
 -- "joined by `,`"
 abbrev pub betweenMembers : ℕ
@@ -30,7 +30,7 @@ betweenMembers = comma
 
 -- "an empty blocker .. print `-`"
 abbrev pub setText : List ℕ → ℕ → List ℕ
-setText staff set = joined betweenMembers (names staff set)
+setText numbers set = joined betweenMembers (names numbers set)
 
 -- "Crews are eight sets; those past d are 0": those before the first that is empty
 unfoldable pub filled : List ℕ → List ℕ
@@ -44,21 +44,21 @@ betweenCrews = slash
 
 -- "in the order filled"
 abbrev pub crewsText : List ℕ → List ℕ → List ℕ
-crewsText staff crews = joined betweenCrews (map (setText staff) (filled crews))
+crewsText numbers crews = joined betweenCrews (map (setText numbers) (filled crews))
 
 -- "the sets"; "undecided, print `-`"
 unfoldable pub setsText : List ℕ → Reply → Verdict → List ℕ
-setsText staff reply Yes = crewsText staff (reply .crews)
-setsText staff reply No = setText staff (reply .blocker)
-setsText staff reply Undecided = dash ∷ []
-setsText staff reply Crews = dash ∷ []
-setsText staff reply None = dash ∷ []
-setsText staff reply (Refused refusal) = dash ∷ []
+setsText numbers reply Yes = crewsText numbers (reply .crews)
+setsText numbers reply No = setText numbers (reply .blocker)
+setsText numbers reply Undecided = dash ∷ []
+setsText numbers reply Crews = dash ∷ []
+setsText numbers reply None = dash ∷ []
+setsText numbers reply (Refused refusal) = dash ∷ []
 
 -- "its index from 0, the verdict, the units and the sets, numbers in decimal, one space between, each line ended by a newline"
 unfoldable pub lineOf : List ℕ → ℕ → Reply → List ℕ
-lineOf staff index reply =
-    joined space (decimal index ∷ verdictWord (reply .verdict) ∷ decimal (reply .units) ∷ setsText staff reply (reply .verdict) ∷ [])
+lineOf numbers index reply =
+    joined space (decimal index ∷ verdictWord (reply .verdict) ∷ decimal (reply .units) ∷ setsText numbers reply (reply .verdict) ∷ [])
     ++ (newline ∷ [])
 
 -- "A refused book prints only one such line of `bad`, the number and the place."

@@ -1,23 +1,20 @@
 -- 01, "The sheet": the whole text as a function of the book's bytes, and what the function that writes it promises. It is made of the reader's
--- reply, of the reply to each policy by the search that skips, and of how a line is written. Nothing here is proved: these are definitions,
+-- reply, of the reply to each policy by the search that skips, over the book's accounts, and of how a line is written. Nothing here is proved: these are definitions,
 -- and they run.
 use mathlib.Core.Path.{_≡_}
 use mathlib.Core.List.{List, [], _++_}
 use Prim.Native.Nat.{ℕ, zero, suc, _≤_, _<_}
 use lib.ListN.{length, drop}
-use Rattle.roster.specs.Limits.{rowLimit}
 use Rattle.roster.specs.declared.Policy.{Policy}
 use Rattle.roster.specs.declared.Reply.{Reply}
-use Rattle.sets.specs.Arrays.{tabulate}
 use Rattle.absences.specs.Tried.{Way, skipping}
-use Rattle.absences.specs.Replied.{policyReplyOf}
+use Rattle.accounts.specs.Persons.{peopleOf}
+use Rattle.questions.specs.Replied.{policyAnswerOf}
 use Rattle.book.specs.Faults.{faultNumber}
 use Rattle.book.specs.Reading.{readOf}
-use Rattle.book.specs.Parts.{rowByNumber, tableOf, policyCount, policyAt}
+use Rattle.book.specs.Parts.{accountsIn, policyCount, policyAt}
 use Rattle.book.specs.declared.Reading.{Reading}
 use Rattle.book.specs.declared.Reading.the-variants.{Good, Refused}
-use Rattle.book.specs.declared.Seen.{Seen}
-use Rattle.book.specs.declared.Seen.the-variants as seen
 use Rattle.book.specs.declared.Listed.{Listed}
 use Rattle.book.specs.declared.Listed.the-variants as listed
 use Rattle.lines.specs.declared.Writing.{Writing}
@@ -28,25 +25,21 @@ use Rattle.lines.specs.Lines.{lineOf, badLine}
 abbrev pub allowance : ℕ
 allowance = 1000000
 
--- a row that is not there has no number, and counts as 0; no sheet names one (`set-rows` and `set-names` of the crate printed)
-abbrev pub staffOr0 : Seen → ℕ
-staffOr0 (seen.Row row) = row .staff
-staffOr0 seen.NoSuchRow = 0
-
--- the staff numbers by row
-unfoldable pub staffOf : List ℕ → List ℕ
-staffOf book = tabulate rowLimit (λ row. staffOr0 (rowByNumber book row))
+-- the numbers that are printed, by person: "The sheet prints person numbers for new books, staff numbers for old". An old row's person number is its
+-- staff number, and each is a person of its own, so that one definition says both (`old-numbers` of the crate printed).
+unfoldable pub numbersIn : List ℕ → List ℕ
+numbersIn book = peopleOf (accountsIn book) .numbers
 
 -- "asks by the search that skips"
 abbrev pub way : Way
 way = skipping
 
 unfoldable pub replyTo : List ℕ → Policy → Reply
-replyTo book p = policyReplyOf way (tableOf book) (p .task) (p .away) (p .crews) (p .size) allowance
+replyTo book p = policyAnswerOf way (accountsIn book) (p .task) (p .away) (p .crews) (p .size) allowance
 
 -- the line of the policy with this index
 unfoldable pub lineBy : List ℕ → ℕ → Listed → List ℕ
-lineBy book index (listed.Policy p) = lineOf (staffOf book) index (replyTo book p)
+lineBy book index (listed.Policy p) = lineOf (numbersIn book) index (replyTo book p)
 lineBy book index listed.NoSuchPolicy = []
 
 -- "for each policy in book order": the n lines from this index on
@@ -68,7 +61,7 @@ longest = 23232
 
 -- so many bytes of a string decide its sheet (`sheet-front`): one more than the longest book has
 abbrev pub enough : ℕ
-enough = 804
+enough = 1061
 
 -- What is promised: where the buffer is long enough for any sheet, this book's sheet stands at its front, and the rest of it is as it was; a
 -- shorter buffer is answered as too short and is as it was.

@@ -1,4 +1,4 @@
-// The last field of a line: sets of rows as staff numbers. Each function appends what its definition in specs/Lines.antt says.
+// The last field of a line: sets of persons by their numbers. Each function appends what its definition in specs/Lines.antt says.
 use roster::Policy;
 use roster::Reply;
 use roster::Verdict;
@@ -11,12 +11,12 @@ ghost use Rattle.roster.specs.Limits.{rowLimit, crewLimit};
 ghost use Rattle.text.specs.Text.{Appended, space, dash, decimal, marked};
 ghost use Rattle.lines.specs.Lines.{names, betweenMembers, setText, filled, betweenCrews, crewsText, setsText};
 
-// A row's staff number after a mark.
-fn member(out: &mut [u8], at: usize, staff: &[u32; Policy::ROWS], mark: u8, row: usize) -> usize
+// A person's number after a mark.
+fn member(out: &mut [u8], at: usize, numbers: &[u32; Policy::ROWS], mark: u8, row: usize) -> usize
     requires { ⌜ row < rowLimit ⌝ }
-    ensures { λ r. ⌜ Appended (mark ∷ decimal (getD (now (staff .entry)) row 0)) (now (out .entry)) at (now (out .exit)) r ⌝ }
+    ensures { λ r. ⌜ Appended (mark ∷ decimal (getD (now (numbers .entry)) row 0)) (now (out .entry)) at (now (out .exit)) r ⌝ }
 {
-    text::number(out, at, mark, text::wide(staff[row]))
+    text::number(out, at, mark, text::wide(numbers[row]))
 }
 
 // A set without this row of it.
@@ -27,16 +27,16 @@ fn without(set: u64, row: u32) -> u64
     set ^ (1u64 << row)
 }
 
-// The staff numbers of a set's rows in row order, the first after `mark`, the others after commas; nothing of an empty set.
-fn members(out: &mut [u8], at: usize, staff: &[u32; Policy::ROWS], mark: u8, set: u64) -> usize
-    ensures { λ r. ⌜ Appended (marked mark betweenMembers (names (now (staff .entry)) set)) (now (out .entry)) at (now (out .exit)) r ⌝ }
+// The numbers of a set's persons in their order, the first after `mark`, the others after commas; nothing of an empty set.
+fn members(out: &mut [u8], at: usize, numbers: &[u32; Policy::ROWS], mark: u8, set: u64) -> usize
+    ensures { λ r. ⌜ Appended (marked mark betweenMembers (names (now (numbers .entry)) set)) (now (out .entry)) at (now (out .exit)) r ⌝ }
 {
     let mut next = at;
     let mut before = mark;
     let mut left = set;
     while left != 0 {
         let row = sets::least(left);
-        next = member(out, next, staff, before, row as usize);
+        next = member(out, next, numbers, before, row as usize);
         before = b',';
         left = without(left, row);
     }
@@ -44,8 +44,8 @@ fn members(out: &mut [u8], at: usize, staff: &[u32; Policy::ROWS], mark: u8, set
 }
 
 // The sets before the first that is empty, each as its members, the first after `mark`, the others after slashes.
-fn crews(out: &mut [u8], at: usize, staff: &[u32; Policy::ROWS], mark: u8, sets: &[u64]) -> usize
-    ensures { λ r. ⌜ Appended (marked mark betweenCrews (map (setText (now (staff .entry))) (filled (now (sets .entry))))) (now (out .entry)) at (now (out .exit)) r ⌝ }
+fn crews(out: &mut [u8], at: usize, numbers: &[u32; Policy::ROWS], mark: u8, sets: &[u64]) -> usize
+    ensures { λ r. ⌜ Appended (marked mark betweenCrews (map (setText (now (numbers .entry))) (filled (now (sets .entry))))) (now (out .entry)) at (now (out .exit)) r ⌝ }
 {
     let mut next = at;
     let mut before = mark;
@@ -54,7 +54,7 @@ fn crews(out: &mut [u8], at: usize, staff: &[u32; Policy::ROWS], mark: u8, sets:
         if sets[j] == 0 {
             return next;
         }
-        next = members(out, next, staff, before, sets[j]);
+        next = members(out, next, numbers, before, sets[j]);
         before = b'/';
         j += 1;
     }
@@ -69,19 +69,19 @@ fn no_set(out: &mut [u8], at: usize) -> usize
 }
 
 // A set as its members after a space; `-` if it is empty.
-fn one_set(out: &mut [u8], at: usize, staff: &[u32; Policy::ROWS], set: u64) -> usize
-    ensures { λ r. ⌜ Appended (space ∷ setText (now (staff .entry)) set) (now (out .entry)) at (now (out .exit)) r ⌝ }
+fn one_set(out: &mut [u8], at: usize, numbers: &[u32; Policy::ROWS], set: u64) -> usize
+    ensures { λ r. ⌜ Appended (space ∷ setText (now (numbers .entry)) set) (now (out .entry)) at (now (out .exit)) r ⌝ }
 {
     if set == 0 {
         no_set(out, at)
     } else {
-        members(out, at, staff, b' ', set)
+        members(out, at, numbers, b' ', set)
     }
 }
 
 // A list of crews after a space; `-` if there is none.
-fn all_crews(out: &mut [u8], at: usize, staff: &[u32; Policy::ROWS], sets: &[u64]) -> usize
-    ensures { λ r. ⌜ Appended (space ∷ crewsText (now (staff .entry)) (now (sets .entry))) (now (out .entry)) at (now (out .exit)) r ⌝ }
+fn all_crews(out: &mut [u8], at: usize, numbers: &[u32; Policy::ROWS], sets: &[u64]) -> usize
+    ensures { λ r. ⌜ Appended (space ∷ crewsText (now (numbers .entry)) (now (sets .entry))) (now (out .entry)) at (now (out .exit)) r ⌝ }
 {
     if sets.len() == 0 {
         return no_set(out, at);
@@ -89,26 +89,26 @@ fn all_crews(out: &mut [u8], at: usize, staff: &[u32; Policy::ROWS], sets: &[u64
     if sets[0] == 0 {
         return no_set(out, at);
     }
-    crews(out, at, staff, b' ', sets)
+    crews(out, at, numbers, b' ', sets)
 }
 
 // The sets that go with the verdict, after a space.
 pub(crate) fn sets_field(
     out: &mut [u8],
     at: usize,
-    staff: &[u32; Policy::ROWS],
+    numbers: &[u32; Policy::ROWS],
     reply: Reply,
 ) -> usize
     requires { ⌜ length (reply .crews) ≡ crewLimit ⌝ }
-    ensures { λ r. ⌜ Appended (space ∷ setsText (now (staff .entry)) reply (reply .verdict)) (now (out .entry)) at (now (out .exit)) r ⌝ }
+    ensures { λ r. ⌜ Appended (space ∷ setsText (now (numbers .entry)) reply (reply .verdict)) (now (out .entry)) at (now (out .exit)) r ⌝ }
 {
     let verdict = reply.verdict;
     match verdict {
         Verdict::Yes => {
             let crews = reply.crews;
-            all_crews(out, at, staff, &crews)
+            all_crews(out, at, numbers, &crews)
         }
-        Verdict::No => one_set(out, at, staff, reply.blocker),
+        Verdict::No => one_set(out, at, numbers, reply.blocker),
         _ => no_set(out, at),
     }
 }

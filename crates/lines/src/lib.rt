@@ -2,28 +2,26 @@
 // specs/Sheet.antt, which is made of the reader's reply and of the replies to the policies: so the "yes" that is printed is the one proved.
 mod field;
 
+use accounts::Accounts;
 use book::Listed;
 use book::Reading;
-use book::Seen;
-use book::Starts;
 use roster::Policy;
 use roster::Reply;
-use roster::Table;
 use roster::Verdict;
 ghost use mathlib.Core.Path.{_≡_};
 ghost use lib.ListN.{length};
 ghost use Rattle.roster.specs.Limits.{crewLimit};
-ghost use Rattle.absences.specs.Asked.{PolicyReply};
-ghost use Rattle.absences.specs.Replied.{policyReplyOf};
-ghost use Rattle.book.specs.Parts.{rowAt, tableOf, policyCount, policyAt};
+ghost use Rattle.questions.specs.Asked.{PolicyAsked};
+ghost use Rattle.questions.specs.Replied.{policyAnswerOf};
+ghost use Rattle.book.specs.Parts.{accountsIn, policyCount, policyAt};
 ghost use Rattle.text.specs.Text.{Appended};
 ghost use Rattle.lines.specs.Lines.{verdictWord, lineOf, badLine};
-ghost use Rattle.lines.specs.Sheet.{allowance, way, staffOr0, staffOf, lineBy, linesFrom, longest, enough, Promised};
+ghost use Rattle.lines.specs.Sheet.{allowance, way, numbersIn, lineBy, linesFrom, longest, enough, Promised};
 
 // No sheet is longer: 32 lines of at most 726 bytes each.
 pub const LONGEST: usize = 23232;
 // So many bytes of an input decide its sheet: one more than the longest book has.
-pub const ENOUGH: usize = 804;
+pub const ENOUGH: usize = 1061;
 // The units that each policy may take.
 const ALLOWANCE: u32 = 1000000;
 
@@ -46,16 +44,22 @@ fn verdict_word(out: &mut [u8], at: usize, verdict: Verdict) -> usize
 }
 
 // The line of a policy's reply.
-fn line(out: &mut [u8], at: usize, staff: &[u32; Policy::ROWS], index: usize, reply: Reply) -> usize
+fn line(
+    out: &mut [u8],
+    at: usize,
+    numbers: &[u32; Policy::ROWS],
+    index: usize,
+    reply: Reply,
+) -> usize
     requires { ⌜ length (reply .crews) ≡ crewLimit ⌝ }
-    ensures { λ r. ⌜ Appended (lineOf (now (staff .entry)) index reply) (now (out .entry)) at (now (out .exit)) r ⌝ }
+    ensures { λ r. ⌜ Appended (lineOf (now (numbers .entry)) index reply) (now (out .entry)) at (now (out .exit)) r ⌝ }
 {
     let verdict = reply.verdict;
     let counted = text::decimal(out, at, index as u64);
     let spaced = text::put(out, counted, b' ');
     let judged = verdict_word(out, spaced, verdict);
     let spent = text::number(out, judged, b' ', text::wide(reply.units));
-    let named = field::sets_field(out, spent, staff, reply);
+    let named = field::sets_field(out, spent, numbers, reply);
     text::put(out, named, b'\n')
 }
 
@@ -69,53 +73,29 @@ fn bad_line(out: &mut [u8], fault: u32, place: usize) -> usize
     text::put(out, placed, b'\n')
 }
 
-// A row's staff number. A row that is not there has none, and none such is printed.
-fn staff_of(book: &[u8], starts: Starts, row: usize) -> u32
-    ensures { λ r. ⌜ r ≡ staffOr0 (rowAt (now (book .entry)) starts row) ⌝ }
-{
-    match book::row_at(book, starts, row) {
-        Seen::Row(seen) => seen.staff,
-        Seen::NoSuchRow => 0,
-    }
-}
-
-// The staff numbers of all rows.
-fn all_staff(book: &[u8]) -> [u32; Policy::ROWS]
-    ensures { λ r. ⌜ r ≡ staffOf (now (book .entry)) ⌝ }
-{
-    let starts = book::starts_in(book);
-    let mut staff = [0u32; Policy::ROWS];
-    let mut row = 0;
-    while row < Policy::ROWS {
-        staff[row] = staff_of(book, starts, row);
-        row += 1;
-    }
-    staff
-}
-
 // The reply to a policy, by the search that skips and with the whole allowance.
-fn reply_of(table: Table, task: u32, away: u32, crews: usize, size: u32) -> Reply
-    ensures { λ r. ⌜ PolicyReply way table task away crews size allowance r ⌝ }
+fn reply_of(accounts: Accounts, task: u32, away: u32, crews: usize, size: u32) -> Reply
+    ensures { λ r. ⌜ PolicyAsked way accounts task away crews size allowance r ⌝ }
 {
-    absences::ask_skipping(table, task, away, crews, size, ALLOWANCE)
+    questions::ask_skipping(accounts, task, away, crews, size, ALLOWANCE)
 }
 
 // A policy is asked, and the line of its reply is written.
 fn asked(
     out: &mut [u8],
     at: usize,
-    staff: &[u32; Policy::ROWS],
+    numbers: &[u32; Policy::ROWS],
     index: usize,
-    table: Table,
+    accounts: Accounts,
     task: u32,
     away: u32,
     crews: usize,
     size: u32,
 ) -> usize
-    ensures { λ r. ⌜ Appended (lineOf (now (staff .entry)) index (policyReplyOf way table task away crews size allowance)) (now (out .entry)) at (now (out .exit)) r ⌝ }
+    ensures { λ r. ⌜ Appended (lineOf (now (numbers .entry)) index (policyAnswerOf way accounts task away crews size allowance)) (now (out .entry)) at (now (out .exit)) r ⌝ }
 {
-    let reply = reply_of(table, task, away, crews, size);
-    line(out, at, staff, index, reply)
+    let reply = reply_of(accounts, task, away, crews, size);
+    line(out, at, numbers, index, reply)
 }
 
 // The line of the book's policy with this index.
@@ -123,20 +103,20 @@ fn policy_line(
     book: &[u8],
     out: &mut [u8],
     at: usize,
-    staff: &[u32; Policy::ROWS],
-    table: Table,
+    numbers: &[u32; Policy::ROWS],
+    accounts: Accounts,
     index: usize,
 ) -> usize
-    requires { ⌜ (now staff ≡ staffOf (now book)) × (table ≡ tableOf (now book)) ⌝ }
+    requires { ⌜ (now numbers ≡ numbersIn (now book)) × (accounts ≡ accountsIn (now book)) ⌝ }
     ensures { λ r. ⌜ Appended (lineBy (now (book .entry)) index (policyAt (now (book .entry)) index)) (now (out .entry)) at (now (out .exit)) r ⌝ }
 {
     match book::policy_at(book, index) {
         Listed::Policy(policy) => asked(
             out,
             at,
-            staff,
+            numbers,
             index,
-            table,
+            accounts,
             policy.task,
             policy.away,
             policy.crews,
@@ -150,13 +130,14 @@ fn policy_line(
 fn all_lines(book: &[u8], out: &mut [u8]) -> usize
     ensures { λ r. ⌜ Appended (linesFrom (now (book .entry)) 0 (policyCount (now (book .entry)))) (now (out .entry)) 0 (now (out .exit)) r ⌝ }
 {
-    let table = book::table_of(book);
-    let staff = all_staff(book);
+    let accounts = book::accounts_of(book);
+    let people = accounts::merged(accounts);
+    let numbers = people.numbers;
     let count = book::policy_count(book);
     let mut at = 0;
     let mut index = 0;
     while index < count {
-        at = policy_line(book, out, at, &staff, table, index);
+        at = policy_line(book, out, at, &numbers, accounts, index);
         index += 1;
     }
     at

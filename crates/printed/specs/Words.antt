@@ -1,7 +1,7 @@
 -- What stands on a sheet, in the words of the book that it is printed from. Nothing here is proved: these are definitions.
 use mathlib.Core.Path.{_≡_}
-use mathlib.Core.Option.{some, none}
-use mathlib.Core.List.{List, [], _∷_, map}
+use mathlib.Core.Option.{some}
+use mathlib.Core.List.{List, map}
 use Prim.Native.Nat.{ℕ, _^_, _≤_, _<_}
 use lib.ListN.{getD, getElem?, take}
 use Rattle.sets.specs.Members.{members}
@@ -12,14 +12,18 @@ use Rattle.roster.specs.declared.Table.{Table}
 use Rattle.crews.specs.Named.{firstList}
 use Rattle.absences.specs.Tried.{Way, skipping}
 use Rattle.absences.specs.Asked.{Admits, needPolicy, PolicyReply}
-use Rattle.book.specs.declared.Row.{Row}
+use Rattle.accounts.specs.Persons.{number, merged}
 use Rattle.book.specs.Layout.{Contents, LayoutOf}
-use Rattle.book.specs.Promises.{tableFor}
+use Rattle.book.specs.Promises.{accountsFor}
 use Rattle.text.specs.Text.{comma, decimal, joined}
 use Rattle.text.specs.Cut.{_␣_, HasLine}
 use Rattle.lines.specs.Sheet.{allowance, sheetOf}
 
 -- ---- a policy of a book
+
+-- the table of the persons whose accounts these are
+abbrev pub tableFor : Contents → Table
+tableFor v = merged (accountsFor v)
 
 -- the book is the layout of these values, and this is their policy with the index i
 pub record PolicyOf (book : List ℕ) (i : ℕ) (v : Contents) (p : Policy) : Type 0 where
@@ -58,15 +62,11 @@ pub record ReplyOver (n : ℕ) (r : Reply) : Type 0 where
 
 -- ---- names
 
--- the rows with these numbers, one after the other
-unfoldable pub rowsAt : List Row → List ℕ → List Row
-rowsAt rows [] = []
-rowsAt rows (u ∷ l) = elim (getElem? rows u) [ none ↦ rowsAt rows l | some row ↦ row ∷ rowsAt rows l ]
-
--- "Members are staff numbers in row order joined by `,`"; `-` where there is none
+-- "Members are staff numbers in row order joined by `,`", "person numbers for new books": the numbers of these persons, in person order; `-` where
+-- there is none
 abbrev pub namesOf : Contents → ℕ → List ℕ
-namesOf v A = joined comma (map (λ row. decimal (row .staff)) (rowsAt (v .rows) (members 0 rowLimit A)))
+namesOf v A = joined comma (map (λ i. decimal (number (accountsFor v) i)) (members 0 rowLimit A))
 
 -- n names that are pairwise different
 abbrev pub Different : ℕ → List ℕ → Type 0
-Different n staff = (u w : ℕ) → u < n → w < n → getD staff u 0 ≡ getD staff w 0 → u ≡ w
+Different n numbers = (u w : ℕ) → u < n → w < n → getD numbers u 0 ≡ getD numbers w 0 → u ≡ w

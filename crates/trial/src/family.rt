@@ -5,6 +5,8 @@ use crate::known;
 use crate::known::Known;
 use crate::known::SETS;
 use crate::known::Wanted;
+use crate::persons;
+use crate::persons::Staff;
 use crate::plain::Duty;
 use crate::plain::PERMISSIONS;
 use crate::plain::ROWS;
@@ -12,8 +14,8 @@ use crate::question;
 use crate::question::AMPLE;
 use crate::question::Asked;
 use crate::question::Question;
+use accounts::Accounts;
 use roster::Policy;
-use roster::Table;
 ghost use Prim.Native.Nat.{_<_};
 
 // As many numbers as `try_small` takes apart: 512 holdings, 4 row counts, 7 tasks, 4 values of d and 4 of t.
@@ -55,17 +57,35 @@ fn task_of(duty: Duty, spread: bool) -> u32 {
     task
 }
 
-// The table as the libraries have it. Holdings outside the task and past the row count play no part: noise stands there.
-fn table_of(duty: Duty, spread: bool, noise: u32) -> Table {
+// The person number of an owner: they differ, and are in no order.
+fn number_of(owner: usize) -> u32 {
+    match owner {
+        0 => 7,
+        1 => 4,
+        2 => 1,
+        3 => 6,
+        4 => 0,
+        _ => 3,
+    }
+}
+
+// The accounts as the libraries have them. Holdings outside the task and past the row count play no part: noise stands there, in rows of the first
+// row's person.
+fn accounts_of(staff: Staff, spread: bool, noise: u32) -> Accounts {
+    let duty = staff.accounts;
     let task = task_of(duty, spread);
     let mut holdings = [noise; Policy::ROWS];
+    let first = number_of(staff.owner_of(0));
+    let mut numbers = [first; Policy::ROWS];
     for row in 0..ROWS {
         if row < duty.rows {
             holdings[row] = holdings_of(duty, spread, row) | (noise & !task);
+            numbers[row] = number_of(staff.owner_of(row));
         }
     }
-    Table {
+    Accounts {
         holdings: holdings,
+        persons: numbers,
         rows: duty.rows,
     }
 }
@@ -75,9 +95,10 @@ fn size_of(size: usize) -> u32 {
     if size < 64 { size as u32 } else { 64 }
 }
 
-pub(crate) fn asked_of(duty: Duty, spread: bool, noise: u32) -> Asked {
+pub(crate) fn asked_of(staff: Staff, spread: bool, noise: u32) -> Asked {
+    let duty = staff.accounts;
     Asked {
-        table: table_of(duty, spread, noise),
+        accounts: accounts_of(staff, spread, noise),
         task: task_of(duty, spread),
         crews: duty.crews,
         size: size_of(duty.size),
@@ -154,6 +175,12 @@ fn try_absences(counts: Counts, known: Known, duty: Duty, asked: Asked) -> Count
     now
 }
 
+// An absence with the bit just past the persons, which may be a row's: it is refused.
+fn try_past(counts: Counts, duty: Duty, asked: Asked) -> Counts {
+    let question = question::named(asked, question::NAMED, known::past(duty.rows));
+    compare::named(counts, question, known::refused(), question.reply())
+}
+
 // Each number of people away up to 4.
 fn try_away(counts: Counts, known: Known, duty: Duty, asked: Asked) -> Counts {
     let mut now = counts;
@@ -208,7 +235,7 @@ fn try_small(counts: Counts, number: usize) -> Counts {
         crews: number / 14336 % 4 + 1,
         size: number / 57344 % 4 + 1,
     };
-    let asked = asked_of(duty, false, AMPLE);
+    let asked = asked_of(persons::own(duty), false, AMPLE);
     let known = known::known_of(duty);
     try_away(try_absences(counts, known, duty, asked), known, duty, asked)
 }
@@ -251,6 +278,28 @@ fn digit(number: u64, base: u64) -> usize
     if last < 64 { last } else { 0 }
 }
 
+// Whose each row is, from a number: its digits to base 6.
+fn drawn_owners(number: u64) -> [usize; ROWS] {
+    let mut owner = [0usize; ROWS];
+    let mut left = number;
+    for row in 0..ROWS {
+        owner[row] = digit(left, 6);
+        left = left / 6;
+    }
+    owner
+}
+
+// In every other table rows may share an owner.
+fn staff_of(accounts: Duty, number: u64) -> Staff {
+    if number % 2 == 0 {
+        return persons::own(accounts);
+    }
+    Staff {
+        accounts: accounts,
+        owner: drawn_owners(number / 2),
+    }
+}
+
 // One table of 4 to 6 rows with one policy, from four drawn numbers, of which the first is given. A row holds a permission with one chance in two,
 // in most tables with three in four: where little is held, nearly everything blocks.
 fn try_drawn(counts: Counts, a: u64) -> Counts {
@@ -259,16 +308,18 @@ fn try_drawn(counts: Counts, a: u64) -> Counts {
     let d = next(c);
     let cells = if c % 4 == 0 { a } else { a | b };
     let size = digit(c / 64, 5);
-    let duty = Duty {
+    let accounts = Duty {
         rows: 4 + digit(c / 1024, 3),
         cells: drawn_cells(cells),
         task: small_task(1 + digit(d, 63)),
         crews: 1 + digit(d / 64, 4),
         size: if size == 0 { 64 } else { size },
     };
-    let asked = asked_of(duty, true, (d / 65536 % 4294967296) as u32);
+    let staff = staff_of(accounts, c / 1048576);
+    let asked = asked_of(staff, true, (d / 65536 % 4294967296) as u32);
+    let duty = staff.merged();
     let known = known::known_of(duty);
-    let tried = try_absences(counts, known, duty, asked);
+    let tried = try_absences(try_past(counts, duty, asked), known, duty, asked);
     try_policy(tried, known, duty, asked, digit(d / 1024, 5))
 }
 

@@ -268,6 +268,21 @@ impl Known {
     }
 }
 
+// The set of the one row just past these, which no table of so many rows has.
+pub(crate) fn past(rows: usize) -> u64 {
+    if rows < 64 { 1u64 << rows } else { 0 }
+}
+
+// What a question that is refused has to reply.
+pub(crate) fn refused() -> Wanted {
+    Wanted {
+        verdict: REFUSED,
+        crews: [0; LISTED],
+        blocker: 0,
+        units: 0,
+    }
+}
+
 // What a question for the absence with this number has to reply.
 pub(crate) fn named_reply(known: Known, duty: Duty, number: usize) -> Wanted {
     filled_reply(known, number, duty.fill(set_of(number)))

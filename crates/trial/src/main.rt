@@ -8,6 +8,7 @@ mod family;
 mod filling;
 mod known;
 mod order;
+mod persons;
 mod plain;
 mod planted;
 mod question;

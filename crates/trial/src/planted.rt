@@ -4,6 +4,7 @@ use crate::compare::Counts;
 use crate::family;
 use crate::known;
 use crate::known::Wanted;
+use crate::persons;
 use crate::plain::Duty;
 use crate::question;
 use crate::question::Asked;
@@ -38,7 +39,7 @@ fn example() -> Duty {
 
 pub(crate) fn example_ground() -> Ground {
     let duty = example();
-    let asked = family::asked_of(duty, false, 0);
+    let asked = family::asked_of(persons::own(duty), false, 0);
     let known = known::known_of(duty);
     Ground {
         asked: asked,

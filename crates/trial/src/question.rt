@@ -1,6 +1,6 @@
 // A question as the libraries are asked it.
+use accounts::Accounts;
 use roster::Reply;
-use roster::Table;
 
 // More than any need here.
 pub const AMPLE: u32 = 4294967295;
@@ -21,13 +21,13 @@ pub const BEFORE: usize = 5;
 
 // A duty as the libraries have it.
 pub struct Asked {
-    pub table: Table,
+    pub accounts: Accounts,
     pub task: u32,
     pub crews: usize,
     pub size: u32,
 }
 
-// How many may be away counts for a policy, the absent rows for a named absence.
+// How many may be away counts for a policy, the absent persons for a named absence.
 pub struct Question {
     pub way: usize,
     pub asked: Asked,
@@ -86,17 +86,24 @@ impl Question {
 
 impl Asked {
     fn skipping(self, away: u32, allowance: u32) -> Reply {
-        let table = self.table;
-        absences::ask_skipping(table, self.task, away, self.crews, self.size, allowance)
+        let accounts = self.accounts;
+        questions::ask_skipping(accounts, self.task, away, self.crews, self.size, allowance)
     }
 
     fn full(self, away: u32, allowance: u32) -> Reply {
-        let table = self.table;
-        absences::ask_full(table, self.task, away, self.crews, self.size, allowance)
+        let accounts = self.accounts;
+        questions::ask_full(accounts, self.task, away, self.crews, self.size, allowance)
     }
 
     fn named(self, absent: u64, allowance: u32) -> Reply {
-        let table = self.table;
-        crews::ask_named(table, self.task, self.crews, self.size, absent, allowance)
+        let accounts = self.accounts;
+        questions::ask_named(
+            accounts,
+            self.task,
+            self.crews,
+            self.size,
+            absent,
+            allowance,
+        )
     }
 }

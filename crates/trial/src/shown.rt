@@ -1,9 +1,9 @@
-// A question and a reply as text, written as the cases of the program `edges` are: TABLE, then P;s,d,t. Sets are lists of rows; `-` is an empty one.
+// A question and a reply as text, written as the cases of the program `edges` are: TABLE, then P;s,d,t. Sets are lists of persons; `-` is an empty one.
 use crate::known::LISTED;
 use crate::known::Wanted;
 use crate::question;
 use crate::question::Question;
-use roster::Table;
+use accounts::Accounts;
 
 // More bytes than names take that stand in one text.
 const NAMES: usize = 200;
@@ -74,17 +74,19 @@ fn show_crews(crews: [u64; LISTED]) {
     }
 }
 
-// A space, then the holdings of the rows, joined by commas.
-fn show_table(table: Table) {
-    let holdings = table.holdings;
+// A space, then the holdings and the person number of the rows, joined by commas.
+fn show_accounts(accounts: Accounts) {
+    let holdings = accounts.holdings;
+    let persons = accounts.persons;
     let mut before = b' ';
     for row in 0..64 {
-        if row < table.rows {
+        if row < accounts.rows {
             show_number(before, wide(holdings[row]));
+            show_number(b':', wide(persons[row]));
             before = b',';
         }
     }
-    if table.rows == 0 {
+    if accounts.rows == 0 {
         io::write_all(1, b" -");
     }
 }
@@ -101,9 +103,9 @@ fn show_reply(reply: Wanted) {
 
 fn show_question(question: Question) {
     let asked = question.asked;
-    let table = asked.table;
+    let accounts = asked.accounts;
     show_name(b"skipping|full|both|named|filling|before", question.way);
-    show_table(table);
+    show_accounts(accounts);
     show_number(b' ', wide(asked.task));
     show_number(b';', wide(question.away));
     show_number(b',', asked.crews as u64);

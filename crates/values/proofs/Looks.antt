@@ -13,15 +13,18 @@ use borrow.Author.Tests.{ltb-false}
 use Rattle.sets.specs.Arrays.{tabulate}
 use Rattle.sets.specs.Laws.Arrays.{length-tabulate}
 use Rattle.roster.specs.Laws.Rulings.{inside}
-use Rattle.book.specs.Reading.{Kind, codes, rows, policies, faultIf, notAbove, staffOf}
+use Rattle.book.specs.Reading.{Kind, codes, rowsOf, policies, faultIf, notAbove, staffOf}
 use Rattle.book.specs.Steps.{countLookIn}
 use Rattle.book.specs.Laws.First.{not-faulty}
+use Rattle.book.specs.declared.Form.{Form}
+use Rattle.book.specs.declared.Form.the-variants.{Old, Persons}
+use Rattle.book.specs.declared.Row.{Row}
 use Rattle.book.specs.declared.Fault.{Fault}
 use Rattle.book.specs.declared.Look.{Look}
 use Rattle.book.specs.declared.Look.the-variants.{Sound, Faulty}
 use Rattle.book.specs.declared.Section.{Section}
 use Rattle.book.specs.declared.Section.the-variants.{Permissions, Rows, Policies}
-use Rattle.values.specs.Values.{contentsFor}
+use Rattle.values.specs.Values.{rowFor, contentsFor}
 use Rattle.values.specs.Writing.{valueLooks, sectionIn, firstOf, faultIn}
 use Rattle.values.specs.Laws.First.{orElse, first-append, neither, none-head}
 use Rattle.values.specs.Inner.Looks.{limitIn, countOf, Counted, codeIn, rowIn, policyIn, priorTo, leadOf, staysAt, lookWith, sectionLooks, told}
@@ -137,13 +140,22 @@ section-looks kind listed listed′ n f e =
 abbrev pub allLooks : Values → List Look
 allLooks v = sectionLooks v Permissions ++ (sectionLooks v Rows ++ sectionLooks v Policies)
 
+-- what is looked at in a row is in the fields of every form
+row-look : (form : Form) (listed : ℕ) (f : ℕ → Row) (i : ℕ) → lookWith (rowsOf form) listed (λ j. rowFor form (f j)) i ≡ lookWith (rowsOf form) listed f i
+row-look Old listed f zero = refl
+row-look Old listed f (suc i) = refl
+row-look Persons listed f zero = refl
+row-look Persons listed f (suc i) = refl
+
 pub fault-by-sections : (v : Values) → faultIn (contentsFor v) ≡ firstOf (allLooks v)
 unfolding contentsFor
 fault-by-sections v =
     let listed = length-tabulate (countOf v Permissions) (codeIn v) in
+    let n = v .«code_count» in
+    let bare = ap (tabulate (countOf v Rows)) (fun-ext (row-look (v .form) n (rowIn v))) in
     ap firstOf
     (ap₂ (λ (l m : List Look). l ++ m) (section-looks codes 0 0 (countOf v Permissions) (codeIn v) refl)
-    (ap₂ (λ (l m : List Look). l ++ m) (section-looks rows _ (v .«code_count») (countOf v Rows) (rowIn v) listed)
+    (ap₂ (λ (l m : List Look). l ++ m) (section-looks (rowsOf (v .form)) _ n (countOf v Rows) (λ i. rowFor (v .form) (rowIn v i)) listed ∙ ap (λ (l : List Look). countLookIn Rows (countOf v Rows) ∷ l) bare)
     (section-looks policies _ (v .«code_count») (countOf v Policies) (policyIn v) listed)))
 
 -- a count that is sound is within its limit

@@ -8,7 +8,7 @@ use Rattle.sets.specs.Arrays.{tabulate}
 use Rattle.roster.specs.Limits.{rowLimit}
 use Rattle.roster.specs.declared.Policy.{Policy}
 use Rattle.book.specs.Layout.{Contents, permissionLimit, policyLimit}
-use Rattle.book.specs.Reading.{readOf, startsOf}
+use Rattle.book.specs.Reading.{formOf, readOf, startsOf}
 use Rattle.book.specs.Parts.{startsIn, codeAt, rowAt, policyIn, policyAt}
 use Rattle.book.specs.Promises.{Bytes, codeBy, rowBy, policyBy, PartsOf}
 use Rattle.book.specs.Laws.Books.{Good, Refused, reply, good-layout}
@@ -25,7 +25,7 @@ book-parts book bytes = go (reply book)
     go : Good book ⊎ Refused book → PartsOf (contentsBy book (readOf book)) book
     go (inl g) =
         subst (λ (r : Reading). PartsOf (contentsBy book r) book) (sym (g .reply))
-        (layout-parts _ book (good-layout book (startsOf book) bytes (g .reply)))
+        (layout-parts _ book (good-layout book (startsOf (formOf book) book) bytes (g .reply)))
     go (inr r) = subst (λ (x : Reading). PartsOf (contentsBy book x) book) (sym (r .reply)) (refused-parts book (r .fault) (r .place) (r .reply))
 
 -- ---- an element of a list, or what stands where there is none

@@ -7,11 +7,16 @@ use native.Mathlib.Omega.{arith}
 use lib.ListN.{length, length-append}
 use Rattle.sets.specs.Arrays.{tabulate}
 use Rattle.sets.specs.Laws.Arrays.{length-tabulate}
-use Rattle.book.specs.Layout.{littleEndian, fieldBytes, joined, section, bytesOf, codeWidths, rowWidths, policyWidths, codeFields, rowFields, policyFields}
+use Rattle.book.specs.Layout.{littleEndian, fieldBytes, joined, section, bytesOf, codeWidths, rowWidths, policyWidths, codeFields, rowFields, policyFields, hasPersons, lead}
+use Rattle.book.specs.Reading.{rowsOf, width, front}
+use Rattle.book.specs.Laws.Books.{lead-front}
+use Rattle.book.specs.declared.Form.{Form}
+use Rattle.book.specs.declared.Form.the-variants.{Old, Persons}
+use Rattle.book.specs.declared.Row.{Row}
 use Rattle.book.specs.Steps.{widthIn}
 use Rattle.book.specs.declared.Section.{Section}
 use Rattle.book.specs.declared.Section.the-variants.{Permissions, Rows, Policies}
-use Rattle.values.specs.Values.{contentsFor}
+use Rattle.values.specs.Values.{rowFor, contentsFor}
 use Rattle.values.specs.Inner.Looks.{countOf, codeIn, rowIn, policyIn}
 use Rattle.values.specs.Inner.Puts.{entryBytes, inOrder, sectionBytes}
 use Rattle.values.specs.declared.Values.{Values}
@@ -57,21 +62,35 @@ section-order {A} widths fields f n =
     from : (i : ℕ) → i ≡ 0 + i
     from i = omega arith
 
+-- the fields that a form has are the row's own
+fields-for : (form : Form) (row : Row) → rowFields (hasPersons form) (rowFor form row) ≡ rowFields (hasPersons form) row
+fields-for Old row = refl
+fields-for Persons row = refl
+
 -- the book by its sections
 pub bytes-by-sections : (v : Values)
-    → sectionBytes v Permissions ++ (sectionBytes v Rows ++ sectionBytes v Policies) ≡ bytesOf (contentsFor v)
+    → lead (v .form) ++ (sectionBytes v Permissions ++ (sectionBytes v Rows ++ sectionBytes v Policies)) ≡ bytesOf (contentsFor v)
 unfolding bytesOf contentsFor
 bytes-by-sections v =
-    sym (ap₂ (λ (a b : List ℕ). a ++ b) (section-order codeWidths codeFields (codeIn v) (countOf v Permissions))
-    (ap₂ (λ (a b : List ℕ). a ++ b) (section-order rowWidths rowFields (rowIn v) (countOf v Rows))
-    (section-order policyWidths policyFields (policyIn v) (countOf v Policies))))
+    let persons = hasPersons (v .form) in
+    let bare = fun-ext (λ i. ap (fieldBytes (rowWidths persons)) (fields-for (v .form) (rowIn v i))) in
+    let rows = section-order (rowWidths persons) (rowFields persons) (λ i. rowFor (v .form) (rowIn v i)) (countOf v Rows)
+    ∙ ap (λ (bytes : ℕ → List ℕ). countOf v Rows ∷ inOrder bytes 0 (countOf v Rows)) bare in
+    sym (ap (λ (l : List ℕ). lead (v .form) ++ l)
+    (ap₂ (λ (a b : List ℕ). a ++ b) (section-order codeWidths codeFields (codeIn v) (countOf v Permissions))
+    (ap₂ (λ (a b : List ℕ). a ++ b) rows (section-order policyWidths policyFields (policyIn v) (countOf v Policies)))))
 
 -- ---- how long
 
-entry-length : (v : Values) (section : Section) (i : ℕ) → length (entryBytes v section i) ≡ widthIn section
+row-length : (form : Form) (row : Row) → length (fieldBytes (rowWidths (hasPersons form)) (rowFields (hasPersons form) row)) ≡ width (rowsOf form)
+unfolding fieldBytes littleEndian
+row-length Old row = refl
+row-length Persons row = refl
+
+entry-length : (v : Values) (section : Section) (i : ℕ) → length (entryBytes v section i) ≡ widthIn (v .form) section
 unfolding fieldBytes littleEndian
 entry-length v Permissions i = refl
-entry-length v Rows i = refl
+entry-length v Rows i = row-length (v .form) (rowIn v i)
 entry-length v Policies i = refl
 
 order-length : (bytes : ℕ → List ℕ) (wide i n : ℕ) → ((j : ℕ) → length (bytes j) ≡ wide) → length (inOrder bytes i n) ≡ wide * n
@@ -81,13 +100,14 @@ order-length bytes wide i (suc n) h =
     length-append (bytes i) (inOrder bytes (suc i) n)
     ∙ omega (arith, h i, order-length bytes wide (suc i) n h, mul-suc wide n)
 
-section-length : (v : Values) (section : Section) → length (sectionBytes v section) ≡ 1 + widthIn section * countOf v section
-section-length v section = omega (arith, order-length (entryBytes v section) (widthIn section) 0 (countOf v section) (entry-length v section))
+section-length : (v : Values) (section : Section) → length (sectionBytes v section) ≡ 1 + widthIn (v .form) section * countOf v section
+section-length v section = omega (arith, order-length (entryBytes v section) (widthIn (v .form) section) 0 (countOf v section) (entry-length v section))
 
-pub book-length : (v : Values) → 3 + 2 * countOf v Permissions + 8 * countOf v Rows + 7 * countOf v Policies ≡ length (bytesOf (contentsFor v))
+pub book-length : (v : Values)
+    → front (v .form) + 3 + 2 * countOf v Permissions + width (rowsOf (v .form)) * countOf v Rows + 7 * countOf v Policies ≡ length (bytesOf (contentsFor v))
 book-length v =
     let codes = sectionBytes v Permissions in
     let rows = sectionBytes v Rows in
     let policies = sectionBytes v Policies in
-    omega (arith, section-length v Permissions, section-length v Rows, section-length v Policies, length-append codes (rows ++ policies), length-append rows policies)
+    omega (arith, lead-front (v .form), length-append (lead (v .form)) (codes ++ (rows ++ policies)), section-length v Permissions, section-length v Rows, section-length v Policies, length-append codes (rows ++ policies), length-append rows policies)
     ∙ ap length (bytes-by-sections v)

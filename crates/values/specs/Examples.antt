@@ -9,7 +9,9 @@ use Rattle.sets.specs.Arrays.{tabulate}
 use Rattle.roster.specs.Refusals.{policyRuling}
 use Rattle.roster.specs.declared.Policy.{Policy}
 use Rattle.book.specs.Layout.{Contents, bytesOf, joined, fieldBytes, littleEndian}
-use Rattle.book.specs.Cases.{valuesB, bookB}
+use Rattle.book.specs.Cases.{valuesB, bookB, valuesNewB, newB}
+use Rattle.book.specs.declared.Form.{Form}
+use Rattle.book.specs.declared.Form.the-variants.{Old, Persons}
 use Rattle.book.specs.Laws.Longest.{fullest}
 use Rattle.book.specs.declared.Row.{Row}
 use Rattle.values.specs.Values.{contentsFor, valuesFor}
@@ -50,18 +52,18 @@ abbrev pub isRefused : Contents → ℕ → ℕ → Example
 isRefused v n number = record { values = v; bytes = n; answer = refused number 0 (room n) }
 
 abbrev pub person : ℕ → ℕ → Row
-person staff holdings = record { staff = staff; holdings = holdings }
+person staff holdings = record { staff = staff; person = staff; holdings = holdings }
 
 abbrev pub asks : ℕ → ℕ → ℕ → ℕ → Policy
 asks P s d t = record { task = P; away = s; crews = d; size = t }
 
 -- these rows and policies, with the permissions 10 and 20
 abbrev pub two : List Row → List Policy → Contents
-two rows policies = record { codes = 10 ∷ 20 ∷ []; rows = rows; policies = policies }
+two rows policies = record { form = Old; codes = 10 ∷ 20 ∷ []; rows = rows; policies = policies }
 
 -- these codes, rows with staff numbers from 0 on, and policies that ask for permission 0
 abbrev pub sized : List ℕ → ℕ → ℕ → Contents
-sized codes rows policies = record { codes = codes; rows = tabulate rows (λ i. person i 1); policies = tabulate policies (λ i. asks 1 0 1 1) }
+sized codes rows policies = record { form = Old; codes = codes; rows = tabulate rows (λ i. person i 1); policies = tabulate policies (λ i. asks 1 0 1 1) }
 
 -- one policy, beside the permissions 10 and 20
 abbrev pub one : Policy → Contents
@@ -78,8 +80,13 @@ roomCases =
     ∷ isRefused valuesB 0 20
     ∷ gives (sized (0 ∷ []) 0 0) 5 (1 ∷ 0 ∷ 0 ∷ 0 ∷ 0 ∷ []) 0
     ∷ isRefused (sized (0 ∷ []) 0 0) 4 20
-    ∷ gives fullest 803 (bytesOf fullest) 0
-    ∷ isRefused fullest 802 20
+    ∷ gives (fullest Old) 803 (bytesOf (fullest Old)) 0
+    ∷ isRefused (fullest Old) 802 20
+    ∷ gives valuesNewB 77 newB 0
+    ∷ gives valuesNewB 78 newB 1
+    ∷ isRefused valuesNewB 76 20
+    ∷ gives (fullest Persons) 1060 (bytesOf (fullest Persons)) 0
+    ∷ isRefused (fullest Persons) 1059 20
     ∷ []
 
 -- counts at both ends, codes and rows
@@ -135,6 +142,7 @@ abbrev pub counting : ℕ → ℕ → ℕ → Contents
 counting codes rows policies =
     let v = valuesFor valuesB in
     contentsFor (record {
+      form = v .form;
       codes = v .codes;
       «code_count» = codes;
       rows = v .rows;
@@ -157,8 +165,30 @@ countedCases =
     ∷ isRefused (counting 2 4 33) 100 17
     ∷ []
 
+-- the staff of the new book B in arrays, under either form: an old book has no person numbers, whatever stands there
+abbrev pub under : Form → Contents
+under form =
+    let v = valuesFor valuesNewB in
+    contentsFor (record {
+      form = form;
+      codes = v .codes;
+      «code_count» = v .«code_count»;
+      rows = v .rows;
+      «row_count» = v .«row_count»;
+      policies = v .policies;
+      «policy_count» = v .«policy_count»;
+    })
+
+abbrev pub formCases : List Example
+formCases =
+    gives (under Old) 60 bookB 0
+    ∷ gives (under Persons) 77 newB 0
+    ∷ isRefused (record { form = Persons; codes = 10 ∷ 20 ∷ []; rows = person 102 0 ∷ person 101 0 ∷ []; policies = [] }) 100 15
+    ∷ isRefused (record { form = Persons; codes = []; rows = []; policies = [] }) 100 12
+    ∷ []
+
 abbrev pub examples : List Example
-examples = roomCases ++ countCases ++ policyCases ++ faultsTogether ++ countedCases
+examples = roomCases ++ countCases ++ policyCases ++ faultsTogether ++ countedCases ++ formCases
 
 -- ---- the fact
 

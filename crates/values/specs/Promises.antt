@@ -17,8 +17,9 @@ use lib.Dec.{eqb, ltb}
 use lib.ListN.{length, drop}
 use Rattle.roster.specs.declared.Policy.{Policy}
 use Rattle.roster.specs.declared.Refusal.the-variants as refusal
-use Rattle.book.specs.Layout.{Contents, bytesOf, Each}
-use Rattle.book.specs.Reading.{codes, rows, policies, faultIf, pastListed}
+use Rattle.book.specs.Layout.{Contents, hasPersons, bytesOf, Each}
+use Rattle.book.specs.Laws.Values.{RowFits}
+use Rattle.book.specs.Reading.{codes, rowsOf, policies, faultIf, pastListed}
 use Rattle.book.specs.declared.Fault.{Fault}
 use Rattle.book.specs.declared.Fault.the-variants as fault
 use Rattle.book.specs.declared.Look.{Look}
@@ -32,10 +33,10 @@ use Rattle.values.specs.declared.Wrote.the-variants as wrote
 
 -- ---- values
 
--- what the types say: a code is a `u16`; staff number, holdings and P are each a `u32`
+-- what the types say: a code is a `u16`; staff number, person number, holdings and P are each a `u32`; and a row has the fields of its form and no others
 pub record Typed (v : Contents) : Type 0 where
   pub codes : Each (λ code. code < 2 ^ 16) (v .codes)
-  pub rows : Each (λ row. (row .staff < 2 ^ 32) × (row .holdings < 2 ^ 32)) (v .rows)
+  pub rows : Each (RowFits (hasPersons (v .form)) 32) (v .rows)
   pub tasks : Each (λ p. p .task < 2 ^ 32) (v .policies)
 
 -- s, d and t each go into their byte
@@ -78,7 +79,7 @@ abbrev pub looksTo : Contents → List Policy → Policy → List Look
 looksTo v before p =
     let listed = length (v .codes) in
     sectionIn codes 0 (v .codes)
-    ++ (sectionIn rows listed (v .rows)
+    ++ (sectionIn (rowsOf (v .form)) listed (v .rows)
     ++ (faultIf (policies .outOfRange (length (v .policies))) (policies .countFault) Sound
     ∷ (valueLooks policies listed none before
     ++ (faultIf (pastListed listed (p .task)) fault.Task (faultIf (eqb (p .task) 0) (fault.Policy refusal.Task) Sound) ∷ []))))

@@ -7,7 +7,7 @@ use Prim.Native.Nat.{ℕ, _≤_, _<_}
 use lib.ListN.{length, drop}
 use Rattle.book.specs.Faults.{faultNumber}
 use Rattle.book.specs.Layout.{Contents, bytesOf}
-use Rattle.book.specs.Reading.{Kind, faultIf, codes, rows, policies}
+use Rattle.book.specs.Reading.{Kind, faultIf, codes, rowsOf, policies}
 use Rattle.book.specs.declared.Fault.{Fault}
 use Rattle.book.specs.declared.Look.{Look}
 use Rattle.book.specs.declared.Look.the-variants.{Sound, Faulty}
@@ -35,7 +35,7 @@ sectionIn kind listed l = faultIf (kind .outOfRange (length l)) (kind .countFaul
 abbrev pub looksIn : Contents → List Look
 looksIn v =
     sectionIn codes 0 (v .codes)
-    ++ (sectionIn rows (length (v .codes)) (v .rows)
+    ++ (sectionIn (rowsOf (v .form)) (length (v .codes)) (v .rows)
     ++ sectionIn policies (length (v .codes)) (v .policies))
 
 -- the first fault, if there is one
@@ -46,9 +46,9 @@ firstOf (x ∷ l) = elim x [ Sound ↦ firstOf l | Faulty f ↦ some f ]
 abbrev pub faultIn : Contents → Option Fault
 faultIn v = firstOf (looksIn v)
 
--- "The longest book is 803 bytes": the constant `LONGEST`. A buffer that is as long is never too short (`longest-enough`).
+-- The longest book of either form: the constant `LONGEST`. A buffer that is as long is never too short (`longest-enough`).
 abbrev pub longest : ℕ
-longest = 803
+longest = 1060
 
 -- ---- what may be replied, and what the buffer then holds
 

@@ -21,6 +21,7 @@ pub(crate) fn nobody() -> Row
 {
     Row {
         staff: 0,
+        person: 0,
         holdings: 0,
     }
 }

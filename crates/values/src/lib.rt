@@ -5,6 +5,7 @@ mod look;
 mod put;
 
 use book::Fault;
+use book::Form;
 use book::Look;
 use book::PERMISSIONS;
 use book::POLICIES;
@@ -17,17 +18,21 @@ use gather::nobody;
 use gather::unasked;
 use look::first_fault;
 use put::length_of;
+use put::put_lead;
 use put::put_section;
 use roster::Policy;
 ghost use mathlib.Core.Path.{_≡_};
+ghost use Rattle.book.specs.declared.Form.the-variants as old;
 ghost use Rattle.values.specs.Values.{contentsFor, noValues, valuesOf};
 ghost use Rattle.values.specs.Writing.{longest, unwrittenNumber, Writes};
 
 // So many bytes hold any book.
-pub const LONGEST: usize = 803;
+pub const LONGEST: usize = 1060;
 
-// What a book says. As many of each list are meant as its count says; what stands past the count plays no part.
+// What a book says. As many of each list are meant as its count says; what stands past the count plays no part, and neither does a field that the
+// form has not.
 pub struct Values {
+    pub form: Form,
     pub codes: [u16; PERMISSIONS],
     pub code_count: usize,
     pub rows: [Row; Policy::ROWS],
@@ -61,13 +66,14 @@ impl Unwritten {
 }
 
 impl Values {
-    // Nothing yet, to begin from.
+    // Nothing yet, to begin from, of the old form.
     pub fn none() -> Values
-        ensures { λ r. ⌜ r ≡ noValues ⌝ }
+        ensures { λ r. ⌜ r ≡ noValues old.Old ⌝ }
     {
         let rows = [nobody(); Policy::ROWS];
         let policies = [unasked(); POLICIES];
         Values {
+            form: Form::Old,
             codes: [0; PERMISSIONS],
             code_count: 0,
             rows: rows,
@@ -85,18 +91,20 @@ pub fn of_book(book: &[u8]) -> Values
     ensures reply { λ r. ⌜ r ≡ valuesOf (now (book .entry)) ⌝ }
     ensures kept { λ _. ⌜ now (book .exit) ≡ now (book .entry) ⌝ }
 {
+    let form = book::form_of(book);
     let starts = book::starts_in(book);
     let codes = all_codes(book, starts);
     let rows = all_rows(book, starts);
     let policies = all_policies(book, starts.policies);
-    let table = book::table_of(book);
+    let accounts = book::accounts_of(book);
     let code_count = book::code_count(book);
     let policy_count = book::policy_count(book);
     Values {
+        form: form,
         codes: codes,
         code_count: code_count,
         rows: rows,
-        row_count: table.rows,
+        row_count: accounts.rows,
         policies: policies,
         policy_count: policy_count,
     }
@@ -118,7 +126,9 @@ pub fn write(values: Values, out: &mut [u8]) -> Wrote
     if out.len() < length_of(values) {
         return Wrote::Refused(Unwritten::Room, 0);
     }
-    let rows = put_section(out, 0, values, Section::Permissions);
+    let form = values.form;
+    let codes = put_lead(out, form);
+    let rows = put_section(out, codes, values, Section::Permissions);
     let policies = put_section(out, rows, values, Section::Rows);
     Wrote::Written(put_section(out, policies, values, Section::Policies))
 }

@@ -4,18 +4,20 @@ use crate::look::code_in;
 use crate::look::count_of;
 use crate::look::policy_in;
 use crate::look::row_in;
+use book::Form;
 use book::Row;
 use book::Section;
+use book::sections::row_width;
 use roster::Policy;
 use text::put;
 ghost use mathlib.Core.Path.{_≡_};
 ghost use Prim.Native.Nat.{_%_, _≤_, _<_};
 ghost use lib.ListN.{length};
-ghost use Rattle.book.specs.Layout.{littleEndian, fieldBytes, rowWidths, rowFields, policyWidths, policyFields, bytesOf};
+ghost use Rattle.book.specs.Layout.{littleEndian, fieldBytes, rowWidths, rowFields, policyWidths, policyFields, hasPersons, lead, bytesOf};
 ghost use Rattle.text.specs.Text.{Appended};
 ghost use Rattle.values.specs.Values.{contentsFor};
 ghost use Rattle.values.specs.Inner.Looks.{limitIn, countOf, Counted};
-ghost use Rattle.values.specs.Inner.Puts.{entryBytes, sectionBytes};
+ghost use Rattle.values.specs.Inner.Puts.{personBytes, entryBytes, sectionBytes};
 
 // The lowest byte of a number.
 fn low(n: u64) -> u8
@@ -40,12 +42,33 @@ fn put_four(out: &mut [u8], at: usize, n: u64) -> usize
     put_two(out, next, n / 256 / 256)
 }
 
-// A row: its staff number, its holdings.
-fn put_row(out: &mut [u8], at: usize, row: Row) -> usize
-    ensures { λ r. ⌜ Appended (fieldBytes rowWidths (rowFields row)) (now (out .entry)) at (now (out .exit)) r ⌝ }
+// The leading byte at the front, where the form has one.
+pub(crate) fn put_lead(out: &mut [u8], form: Form) -> usize
+    ensures { λ r. ⌜ Appended (lead form) (now (out .entry)) 0 (now (out .exit)) r ⌝ }
 {
-    let next = put_four(out, at, text::wide(row.staff));
-    put_four(out, next, text::wide(row.holdings))
+    match form {
+        Form::Old => 0,
+        Form::Persons => put(out, 0, 200),
+    }
+}
+
+// A person number, where the form has it.
+fn put_person(out: &mut [u8], at: usize, form: Form, person: u32) -> usize
+    ensures { λ r. ⌜ Appended (personBytes (hasPersons form) person) (now (out .entry)) at (now (out .exit)) r ⌝ }
+{
+    match form {
+        Form::Old => at,
+        Form::Persons => put_four(out, at, text::wide(person)),
+    }
+}
+
+// A row: its staff number, its person number where the form has it, its holdings.
+fn put_row(out: &mut [u8], at: usize, form: Form, row: Row) -> usize
+    ensures { λ r. ⌜ Appended (fieldBytes (rowWidths (hasPersons form)) (rowFields (hasPersons form) row)) (now (out .entry)) at (now (out .exit)) r ⌝ }
+{
+    let staffed = put_four(out, at, text::wide(row.staff));
+    let named = put_person(out, staffed, form, row.person);
+    put_four(out, named, text::wide(row.holdings))
 }
 
 // A policy: P, then s, d, t in a byte each.
@@ -63,9 +86,10 @@ fn put_entry(out: &mut [u8], at: usize, values: Values, section: Section, i: usi
     requires { ⌜ i < limitIn section ⌝ }
     ensures { λ r. ⌜ Appended (entryBytes values section i) (now (out .entry)) at (now (out .exit)) r ⌝ }
 {
+    let form = values.form;
     match section {
         Section::Permissions => put_two(out, at, text::wide(code_in(values, i))),
-        Section::Rows => put_row(out, at, row_in(values, i)),
+        Section::Rows => put_row(out, at, form, row_in(values, i)),
         Section::Policies => put_policy(out, at, policy_in(values, i)),
     }
 }
@@ -90,8 +114,11 @@ pub(crate) fn length_of(values: Values) -> usize
     requires { ⌜ Counted values ⌝ }
     ensures { λ r. ⌜ r ≡ length (bytesOf (contentsFor values)) ⌝ }
 {
+    let form = values.form;
+    let front = form.front();
+    let wide = row_width(form);
     let codes = count_of(values, Section::Permissions);
     let rows = count_of(values, Section::Rows);
     let policies = count_of(values, Section::Policies);
-    3 + 2 * codes + 8 * rows + 7 * policies
+    front + 3 + 2 * codes + wide * rows + 7 * policies
 }

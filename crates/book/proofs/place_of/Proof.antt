@@ -19,7 +19,7 @@ count-at-requires c κs = search needs
 returns : tie.Need-returns
 returns c =
     let a = c .before .before .before .args in
-    sym (place-past (widthIn (a .section)) (a .book .now) (a .start) (a .i) (omega (arith, c .before .count-at .ensures, c .if1 .taken)))
+    sym (place-past (widthIn (a .form) (a .section)) (a .book .now) (a .start) (a .i) (omega (arith, c .before .count-at .ensures, c .if1 .taken)))
 
 width-requires : tie.Need-width-requires
 width-requires c κs = search needs
@@ -28,14 +28,14 @@ width-requires c κs = search needs
 facts : (c : tie.After-width)
     → (c .before .before .before .before .args .start < length (c .before .before .before .before .args .book .now))
     × (c .before .before .before .before .args .i < countAt (c .before .before .before .before .args .book .now) (c .before .before .before .before .args .start))
-    × (c .width .result * c .before .before .before .before .args .i ≤ 2048)
+    × (c .width .result * c .before .before .before .before .args .i ≤ 3060)
 facts c =
     let a = c .before .before .before .before .args in
     let below : a .i < countAt (a .book .now) (a .start) = omega (arith, c .before .before .count-at .ensures, c .before .if1 .left) in
     let byte = c .before .before .before .shared-slice-known .given (a .start) in (
       counted (a .book .now) (a .start) (a .i) below,
       below,
-      rw (c .width .ensures) (near (a .section) (a .i) (omega (arith, below, byte))),
+      rw (c .width .ensures) (near (a .form) (a .section) (a .i) (omega (arith, below, byte))),
     )
 
 add-at : tie.Need-add-at

@@ -9,6 +9,9 @@ use Rattle.book.specs.Laws.Places.{place-within}
 use Rattle.book.proofs.policy_in.Statement.{statement}
 use Rattle.book.proofs.policy_in.Tie as tie
 
+form-of-requires : tie.Need-form-of-requires
+form-of-requires c κs = search needs
+
 place-of-requires : tie.Need-place-of-requires
 place-of-requires c κs = search needs
 
@@ -16,13 +19,13 @@ enum-known-at : tie.Need-enum-known-at
 enum-known-at c = search needs
 
 -- where the policy stands, by the width of policies
-stood : (c : tie.After-place-of) → let a = c .before .before .args in c .place-of .result ≡ placeOf (width policies) (a .book .now) (a .start) (a .i)
+stood : (c : tie.After-place-of) → let a = c .before .before .before .args in c .place-of .result ≡ placeOf (width policies) (a .book .now) (a .start) (a .i)
 stood c = c .place-of .ensures
 
 policy-from-requires : tie.Need-policy-from-requires
 policy-from-requires c κs =
     let p = c .before .before .before in
-    let a = p .before .before .args in
+    let a = p .before .before .before .args in
     let h = place-within _ (a .book .now) (a .start) (a .i) (sym (stood p) ∙ c .before .at .given .1) in
     omega arith
 
@@ -40,7 +43,7 @@ returns c =
     both (
     let m = c .before .before .before in
     let p = m .before .before .before .before in
-    let a = p .before .before .args in
+    let a = p .before .before .before .args in
     ap listedBy (sym (c .before .policy .given .1) ∙ m .policy-from .ensures)
     ∙ ap (policyFrom (a .book .now)) (sym (m .before .before .at .given .1) ∙ stood p))
 
@@ -49,7 +52,7 @@ returns-2 c =
     both (
     let m = c .before .before in
     let p = m .before .before .before .before in
-    let a = p .before .before .args in
+    let a = p .before .before .before .args in
     ap listedBy (sym (c .enum-told .given .1) ∙ m .policy-from .ensures)
     ∙ ap (policyFrom (a .book .now)) (sym (m .before .before .at .given .1) ∙ stood p))
 
@@ -57,13 +60,14 @@ returns-3 : tie.Need-returns-3
 returns-3 c =
     both (
     let p = c .before .before in
-    let a = p .before .before .args in
+    let a = p .before .before .before .args in
     ap (policyFrom (a .book .now)) (sym (c .enum-told2 .given .1) ∙ stood p))
 
 pub policy-in-spec : {M : Type 1} → statement M
 policy-in-spec =
     tie.close
     (tie.spec
+    form-of-requires
     place-of-requires
     enum-known-at
     policy-from-requires

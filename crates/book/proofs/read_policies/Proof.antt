@@ -1,11 +1,12 @@
 -- The section's fault is the book's; without one the end decides. Assumes nothing.
 use borrow.Author.Needs.{needs}
-use mathlib.Core.Path.{sym, ap, _∙_}
+use mathlib.Core.Path.{_≡_, sym, ap, _∙_}
 use mathlib.Core.List.{List, [], _∷_}
 use Prim.Native.Nat.{ℕ}
 use native.Mathlib.Omega.{arith}
-use Rattle.book.specs.Reading.{Found, listedIn, endLook}
+use Rattle.book.specs.Reading.{Found, front, countAt, listedIn, endLook}
 use Rattle.book.specs.Steps.{pastIn, readPolicies}
+use Rattle.book.specs.declared.Form.{Form}
 use Rattle.book.specs.declared.Section.the-variants.{Policies}
 use Rattle.book.specs.declared.Fault.the-variants as fault
 use Rattle.book.specs.declared.Reading.{Reading}
@@ -15,14 +16,21 @@ use Rattle.book.proofs.read_policies.Statement.{statement}
 use Rattle.book.proofs.read_policies.Tie as tie
 
 -- the good reply, and what is looked at last
-abbrev good : ℕ → ℕ → Reading
-good rowsAt at = read.Good (record { permissions = 0; rows = rowsAt; policies = at })
+abbrev good : Form → ℕ → ℕ → Reading
+good form rowsAt at = read.Good (record { permissions = front form; rows = rowsAt; policies = at })
 
-abbrev last : List ℕ → ℕ → List Found
-last book at = endLook book (pastIn Policies book at) ∷ []
+abbrev last : Form → List ℕ → ℕ → List Found
+last form book at = endLook book (pastIn form Policies book at) ∷ []
+
+front-requires : tie.Need-front-requires
+front-requires c κs = search needs
 
 count-at-requires : tie.Need-count-at-requires
 count-at-requires c κs = search needs
+
+-- how many permissions are listed
+listed : (c : tie.After-count-at) → let a = c .before .before .before .args in c .count-at .result ≡ listedIn (a .form) (a .book .now)
+listed c = c .count-at .ensures ∙ ap (countAt (c .before .before .before .args .book .now)) (c .before .front .ensures)
 
 section-step-requires : tie.Need-section-step-requires
 section-step-requires c κs = search needs
@@ -37,37 +45,39 @@ returns : tie.Need-returns
 unfolding readPolicies
 returns c =
     let s = c .before .before .before .before in
-    let a = s .before .before .before .args in
-    let e = read-on Policies (a .book .now) (listedIn (a .book .now)) (a .policies) (good (a .rows) (a .policies)) (last (a .book .now) (a .policies))
-    (told Policies (a .book .now) (a .policies) (s .section-step .ensures) (s .before .count-at .ensures) (c .before .before .end .given .1)) in
+    let a = s .before .before .before .before .args in
+    let e = read-on (a .form) Policies (a .book .now) (listedIn (a .form) (a .book .now)) (a .policies) (good (a .form) (a .rows) (a .policies)) (last (a .form) (a .book .now) (a .policies))
+    (told (a .form) Policies (a .book .now) (a .policies) (s .section-step .ensures) (listed (s .before)) (c .before .before .end .given .1)) in
     let end = e .1 in
     sym (e .0
-    ∙ end-excess (a .book .now) (pastIn Policies (a .book .now) (a .policies)) (good (a .rows) (a .policies)) (omega (arith, end, c .if1 .taken))
+    ∙ end-excess (a .book .now) (pastIn (a .form) Policies (a .book .now) (a .policies)) (good (a .form) (a .rows) (a .policies)) (omega (arith, end, c .if1 .taken))
     ∙ ap (read.Refused fault.Excess) (sym end))
 
 returns-2 : tie.Need-returns-2
 unfolding readPolicies
 returns-2 c =
     let s = c .before .before .before in
-    let a = s .before .before .before .args in
-    sym (read-refused Policies (a .book .now) (listedIn (a .book .now)) (a .policies) (good (a .rows) (a .policies)) (last (a .book .now) (a .policies))
-    (told Policies (a .book .now) (a .policies) (s .section-step .ensures) (s .before .count-at .ensures) (c .before .fault .given .1)))
+    let a = s .before .before .before .before .args in
+    sym (read-refused (a .form) Policies (a .book .now) (listedIn (a .form) (a .book .now)) (a .policies) (good (a .form) (a .rows) (a .policies)) (last (a .form) (a .book .now) (a .policies))
+    (told (a .form) Policies (a .book .now) (a .policies) (s .section-step .ensures) (listed (s .before)) (c .before .fault .given .1)))
 
 returns-3 : tie.Need-returns-3
 unfolding readPolicies
 returns-3 c =
     let s = c .before .before .before .before in
-    let a = s .before .before .before .args in
-    let e = read-on Policies (a .book .now) (listedIn (a .book .now)) (a .policies) (good (a .rows) (a .policies)) (last (a .book .now) (a .policies))
-    (told Policies (a .book .now) (a .policies) (s .section-step .ensures) (s .before .count-at .ensures) (c .before .before .end .given .1)) in
+    let a = s .before .before .before .before .args in
+    let e = read-on (a .form) Policies (a .book .now) (listedIn (a .form) (a .book .now)) (a .policies) (good (a .form) (a .rows) (a .policies)) (last (a .form) (a .book .now) (a .policies))
+    (told (a .form) Policies (a .book .now) (a .policies) (s .section-step .ensures) (listed (s .before)) (c .before .before .end .given .1)) in
     let end = e .1 in
     sym (e .0
-    ∙ end-good (a .book .now) (pastIn Policies (a .book .now) (a .policies)) (good (a .rows) (a .policies)) (omega (arith, end, c .if1 .left)))
+    ∙ end-good (a .book .now) (pastIn (a .form) Policies (a .book .now) (a .policies)) (good (a .form) (a .rows) (a .policies)) (omega (arith, end, c .if1 .left))
+    ∙ ap (λ (n : ℕ). read.Good (record { permissions = n; rows = a .rows; policies = a .policies })) (sym (s .before .before .front .ensures)))
 
 pub read-policies-spec : {M : Type 1} → statement M
 read-policies-spec =
     tie.close
     (tie.spec
+    front-requires
     count-at-requires
     section-step-requires
     enum-known-fault

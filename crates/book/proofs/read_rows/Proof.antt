@@ -1,10 +1,11 @@
 -- The section's fault is the book's; without one the policies decide. Assumes nothing.
 use borrow.Author.Needs.{needs}
-use mathlib.Core.Path.{sym, ap, _∙_}
+use mathlib.Core.Path.{_≡_, sym, ap, _∙_}
 use mathlib.Core.List.{List}
 use Prim.Native.Nat.{ℕ}
-use Rattle.book.specs.Reading.{Found, listedIn, looksFromPolicies}
+use Rattle.book.specs.Reading.{Found, front, countAt, listedIn, looksFromPolicies}
 use Rattle.book.specs.Steps.{pastIn, readRows, readPolicies}
+use Rattle.book.specs.declared.Form.{Form}
 use Rattle.book.specs.declared.Section.the-variants.{Rows}
 use Rattle.book.specs.declared.Reading.{Reading}
 use Rattle.book.specs.declared.Reading.the-variants as read
@@ -13,14 +14,21 @@ use Rattle.book.proofs.read_rows.Statement.{statement}
 use Rattle.book.proofs.read_rows.Tie as tie
 
 -- the good reply, and what is looked at after the rows
-abbrev good : List ℕ → ℕ → Reading
-good book at = read.Good (record { permissions = 0; rows = at; policies = pastIn Rows book at })
+abbrev good : Form → List ℕ → ℕ → Reading
+good form book at = read.Good (record { permissions = front form; rows = at; policies = pastIn form Rows book at })
 
-abbrev rest : List ℕ → ℕ → List Found
-rest book at = looksFromPolicies book (pastIn Rows book at)
+abbrev rest : Form → List ℕ → ℕ → List Found
+rest form book at = looksFromPolicies form book (pastIn form Rows book at)
+
+front-requires : tie.Need-front-requires
+front-requires c κs = search needs
 
 count-at-requires : tie.Need-count-at-requires
 count-at-requires c κs = search needs
+
+-- how many permissions are listed
+listed : (c : tie.After-count-at) → let a = c .before .before .before .args in c .count-at .result ≡ listedIn (a .form) (a .book .now)
+listed c = c .count-at .ensures ∙ ap (countAt (c .before .before .before .args .book .now)) (c .before .front .ensures)
 
 section-step-requires : tie.Need-section-step-requires
 section-step-requires c κs = search needs
@@ -38,23 +46,24 @@ returns : tie.Need-returns
 unfolding readRows
 returns c =
     let s = c .before .before .before in
-    let a = s .before .before .before .args in
-    sym (read-refused Rows (a .book .now) (listedIn (a .book .now)) (a .rows) (good (a .book .now) (a .rows)) (rest (a .book .now) (a .rows))
-    (told Rows (a .book .now) (a .rows) (s .section-step .ensures) (s .before .count-at .ensures) (c .before .fault .given .1)))
+    let a = s .before .before .before .before .args in
+    sym (read-refused (a .form) Rows (a .book .now) (listedIn (a .form) (a .book .now)) (a .rows) (good (a .form) (a .book .now) (a .rows)) (rest (a .form) (a .book .now) (a .rows))
+    (told (a .form) Rows (a .book .now) (a .rows) (s .section-step .ensures) (listed (s .before)) (c .before .fault .given .1)))
 
 returns-2 : tie.Need-returns-2
 unfolding readRows readPolicies
 returns-2 c =
     let s = c .before .before .before .before in
-    let a = s .before .before .before .args in
-    let e = read-on Rows (a .book .now) (listedIn (a .book .now)) (a .rows) (good (a .book .now) (a .rows)) (rest (a .book .now) (a .rows))
-    (told Rows (a .book .now) (a .rows) (s .section-step .ensures) (s .before .count-at .ensures) (c .before .before .policies .given .1)) in
-    c .read-policies .ensures ∙ ap (readPolicies (a .book .now) (a .rows)) (e .1) ∙ sym (e .0)
+    let a = s .before .before .before .before .args in
+    let e = read-on (a .form) Rows (a .book .now) (listedIn (a .form) (a .book .now)) (a .rows) (good (a .form) (a .book .now) (a .rows)) (rest (a .form) (a .book .now) (a .rows))
+    (told (a .form) Rows (a .book .now) (a .rows) (s .section-step .ensures) (listed (s .before)) (c .before .before .policies .given .1)) in
+    c .read-policies .ensures ∙ ap (readPolicies (a .form) (a .book .now) (a .rows)) (e .1) ∙ sym (e .0)
 
 pub read-rows-spec : {M : Type 1} → statement M
 read-rows-spec =
     tie.close
     (tie.spec
+    front-requires
     count-at-requires
     section-step-requires
     enum-known-fault

@@ -1,5 +1,7 @@
--- "The longest book is 803 bytes": no good book is longer, and one is as long. Assumes nothing.
-use mathlib.Core.Path.{_≡_, refl, ap}
+-- "The longest book is 803 bytes", that is the longest old one; a new one has 1,060 at most. No good book is longer, and one of each form is as
+-- long. Assumes nothing.
+use mathlib.Core.Path.{_≡_, refl, ap, _∙_}
+use mathlib.Core.Bool.{Bool, true, false}
 use mathlib.Core.List.{List, _++_}
 use Prim.Native.Nat.{ℕ, zero, suc, _+_, _*_, _≤_, _<_}
 use native.Mathlib.Omega.{arith}
@@ -10,31 +12,51 @@ use Rattle.roster.specs.Limits.{rowLimit}
 use Rattle.roster.specs.Refusals.{policyRuling}
 use Rattle.roster.specs.declared.Policy.{Policy}
 use Rattle.book.specs.declared.Row.{Row}
-use Rattle.book.specs.Layout.{Contents, codeWidths, rowWidths, policyWidths, codeFields, rowFields, policyFields, permissionLimit, policyLimit, section, bytesOf, Each, Below, Ascends, Admitted, LayoutOf}
-use Rattle.book.specs.Reading.{codes, rows, policies}
+use Rattle.book.specs.Layout.{Contents, codeWidths, rowWidths, policyWidths, codeFields, rowFields, policyFields, hasPersons, lead, permissionLimit, policyLimit, section, bytesOf, Own, Each, Below, Ascends, Admitted, LayoutOf}
+use Rattle.book.specs.Reading.{codes, rowsOf, policies, width}
+use Rattle.book.specs.declared.Form.{Form}
+use Rattle.book.specs.declared.Form.the-variants.{Old, Persons}
 use Rattle.book.specs.Laws.Sections.{joined-length}
-use Rattle.book.specs.Laws.Values.{code-codec, row-codec, policy-codec, each, each-both, code-fits, row-fits, policy-fits}
+use Rattle.book.specs.Laws.Values.{code-codec, row-codec, policy-codec, each, code-fits, each-row-fits, row-fits, policy-fits}
 
 -- how long a layout is
 pub layout-length : (v : Contents) → Admitted v
-    → length (bytesOf v) ≡ 3 + 2 * length (v .codes) + 8 * length (v .rows) + 7 * length (v .policies)
+    → length (bytesOf v) ≡ length (lead (v .form)) + 3 + 2 * length (v .codes) + width (rowsOf (v .form)) * length (v .rows) + 7 * length (v .policies)
 unfolding bytesOf
 layout-length v a =
     let np = length (v .codes) in
+    let persons = hasPersons (v .form) in
     let sec1 = section codeWidths codeFields (v .codes) in
-    let sec2 = section rowWidths rowFields (v .rows) in
+    let sec2 = section (rowWidths persons) (rowFields persons) (v .rows) in
     let sec3 = section policyWidths policyFields (v .policies) in
     let one = joined-length codes codeFields code-codec (v .codes) (each code-fits (v .codes) (a .codes)) in
-    let two = joined-length rows rowFields row-codec (v .rows)
-    (each (row-fits np (a .permissions)) (v .rows) (each-both _ _ (v .rows) (a .staff) (a .holdings))) in
+    let two = joined-length (rowsOf (v .form)) (rowFields persons) (row-codec persons) (v .rows)
+    (each (row-fits persons np (a .permissions)) (v .rows) (each-row-fits persons np (v .rows) (a .staff) (a .persons) (a .own) (a .holdings))) in
     let three = joined-length policies policyFields policy-codec (v .policies) (each (policy-fits np (a .permissions)) (v .policies) (a .sound)) in
-    omega (arith, length-append sec1 (sec2 ++ sec3), length-append sec2 sec3)
+    omega (arith, length-append (lead (v .form)) (sec1 ++ (sec2 ++ sec3)), length-append sec1 (sec2 ++ sec3), length-append sec2 sec3)
+
+-- how long a book of this form is at most
+abbrev pub longest : Form → ℕ
+longest Old = 803
+longest Persons = 1060
+
+most : (form : Form) (codes rows policies : ℕ) → codes ≤ permissionLimit → rows ≤ rowLimit → policies ≤ policyLimit
+    → length (lead form) + 3 + 2 * codes + width (rowsOf form) * rows + 7 * policies ≤ longest form
+most Old codes rows policies c r p = omega arith
+most Persons codes rows policies c r p = omega arith
 
 -- no good book is longer
-pub good-short : (v : Contents) (book : List ℕ) → LayoutOf v book → length book ≤ 803
-good-short v book l =
+pub form-short : (v : Contents) (book : List ℕ) → LayoutOf v book → length book ≤ longest (v .form)
+form-short v book l =
     let a = l .admitted in
-    omega (arith, ap length (l .bytes), layout-length v a, a .permissions, a .rows, a .policies)
+    omega (arith, ap length (l .bytes), layout-length v a, most (v .form) _ _ _ (a .permissions) (a .rows) (a .policies))
+
+longest-any : (form : Form) → longest form ≤ 1060
+longest-any Old = omega arith
+longest-any Persons = omega arith
+
+pub good-short : (v : Contents) (book : List ℕ) → LayoutOf v book → length book ≤ 1060
+good-short v book l = omega (arith, form-short v book l, longest-any (v .form))
 
 -- ---- one that is as long
 
@@ -51,22 +73,27 @@ ascends-tabulate key (suc zero) f e = (tt, tt)
 ascends-tabulate key (suc (suc n)) f e = (omega (arith, e 0), ascends-tabulate key (suc n) (λ i. f (suc i)) (λ j. e (suc j)))
 
 abbrev row-number : ℕ → Row
-row-number i = record { staff = i; holdings = 0 }
+row-number i = record { staff = i; person = i; holdings = 0 }
+
+own-number : (persons : Bool) (i : ℕ) → Own persons (row-number i)
+own-number false i = refl
+own-number true i = tt
 
 abbrev least : ℕ → Policy
 least i = record { task = 1; away = 0; crews = 1; size = 1 }
 
 -- as many permissions, rows and policies as may be
-abbrev pub fullest : Contents
-fullest = record {
+abbrev pub fullest : Form → Contents
+fullest form = record {
+  form = form;
   codes = tabulate permissionLimit (λ i. i);
   rows = tabulate rowLimit row-number;
   policies = tabulate policyLimit least;
 }
 
-pub fullest-admitted : Admitted fullest
+pub fullest-admitted : (form : Form) → Admitted (fullest form)
 unfolding policyRuling
-fullest-admitted =
+fullest-admitted form =
     let np = length-tabulate permissionLimit (λ (i : ℕ). i) in
     record {
       some = rw np (omega arith);
@@ -77,10 +104,17 @@ fullest-admitted =
       codesAscend = ascends-tabulate (λ c. c) permissionLimit (λ i. i) (λ j. refl);
       staff = each-tabulate _ rowLimit row-number (λ j l. omega arith);
       staffAscends = ascends-tabulate (λ row. row .staff) rowLimit row-number (λ j. refl);
+      persons = each-tabulate _ rowLimit row-number (λ j l. omega arith);
+      own = each-tabulate _ rowLimit row-number (λ j l. own-number (hasPersons form) j);
       holdings = rw np (each-tabulate _ rowLimit row-number (λ j l. omega arith));
       sound = rw np (each-tabulate _ policyLimit least (λ j l. record { task = omega arith; sound = refl }));
     }
 
-pub longest-book : length (bytesOf fullest) ≡ 803
-longest-book =
-    omega (arith, layout-length fullest fullest-admitted, length-tabulate permissionLimit (λ (i : ℕ). i), length-tabulate rowLimit row-number, length-tabulate policyLimit least)
+full : (form : Form) → length (lead form) + 3 + 2 * permissionLimit + width (rowsOf form) * rowLimit + 7 * policyLimit ≡ longest form
+full Old = refl
+full Persons = refl
+
+pub longest-book : (form : Form) → length (bytesOf (fullest form)) ≡ longest form
+longest-book form =
+    layout-length (fullest form) (fullest-admitted form)
+    ∙ rw (length-tabulate permissionLimit (λ (i : ℕ). i), length-tabulate rowLimit row-number, length-tabulate policyLimit least) (full form)

@@ -1,4 +1,4 @@
--- The reply to any byte string is the reply to its first 804 bytes: of a longer one nothing matters but those and that it is longer. Assumes
+-- The reply to any byte string is the reply to its first 1,061 bytes: of a longer one nothing matters but those and that it is longer. Assumes
 -- nothing.
 use mathlib.Core.Path.{_≡_, refl, sym, ap, _∙_}
 use mathlib.Core.Bool.{false}
@@ -14,7 +14,9 @@ use lib.Seq.{getD-take}
 use borrow.Author.Tests.{lt-ltb, le-ltb, ltb-false}
 use Rattle.roster.specs.Limits.{rowLimit}
 use Rattle.book.specs.Layout.{permissionLimit, policyLimit}
-use Rattle.book.specs.Reading.{Found, Kind, number, fieldsAt, total, codes, rows, policies, faultIf, width, entryAt, prior, countLook, entryLook, inTurn, countAt, sectionLooks, past, listedIn, endLook, firstFault, readOf}
+use Rattle.book.specs.Reading.{Found, Kind, number, fieldsAt, total, codes, rowsOf, policies, faultIf, width, entryAt, prior, countLook, entryLook, inTurn, countAt, sectionLooks, past, formOf, front, listedIn, endLook, firstFault, readBy, readOf}
+use Rattle.book.specs.declared.Form.{Form}
+use Rattle.book.specs.declared.Form.the-variants.{Old, Persons}
 use Rattle.book.specs.Laws.First.{not-faulty, first-append}
 use Rattle.roster.specs.Laws.Rulings.{inside}
 use Rattle.book.specs.declared.Fault.{Fault}
@@ -133,55 +135,79 @@ module _ (n : ℕ) (a b : List ℕ) (same : Agree n a b) where
 few-codes : (c : ℕ) → codes .outOfRange c ≡ false → c ≤ permissionLimit
 few-codes c e = inside permissionLimit c e .1
 
-few-rows : (c : ℕ) → rows .outOfRange c ≡ false → c ≤ rowLimit
-few-rows c e = ltb-false rowLimit c e
-
 few-policies : (c : ℕ) → policies .outOfRange c ≡ false → c ≤ policyLimit
 few-policies c e = ltb-false policyLimit c e
 
-module _ (a b : List ℕ) (same : Agree 804 a b) where
-  past-codes-agree : past codes a 0 ≡ past codes b 0
-  unfolding past
-  past-codes-agree = rw (same .bytes 0 (omega arith))
+module _ (form : Form) where
+  few-rows : (c : ℕ) → rowsOf form .outOfRange c ≡ false → c ≤ rowLimit
+  few-rows c e = ltb-false rowLimit c e
 
-  past-rows-agree : (at : ℕ) → at ≤ 65 → past rows a at ≡ past rows b at
+  pub near-front : front form ≤ 1
+  near-front = go form
+    where
+      go : (f : Form) → front f ≤ 1
+      go Old = omega arith
+      go Persons = omega arith
+
+  -- 64 rows of either width
+  pub near-row : (c : ℕ) → c ≤ rowLimit → width (rowsOf form) * c ≤ 768
+  near-row c h = go form
+    where
+      go : (f : Form) → width (rowsOf f) * c ≤ 768
+      go Old = omega arith
+      go Persons = omega arith
+
+module _ (a b : List ℕ) (same : Agree 1061 a b) (form : Form) where
+  past-codes-agree : past codes a (front form) ≡ past codes b (front form)
+  unfolding past
+  past-codes-agree = rw (same .bytes (front form) (omega (arith, near-front form)))
+
+  past-rows-agree : (at : ℕ) → at ≤ 66 → past (rowsOf form) a at ≡ past (rowsOf form) b at
   unfolding past
   past-rows-agree at h = rw (same .bytes at (omega arith))
 
-  near-rows : countAt b 0 ≤ permissionLimit → past codes b 0 ≤ 65
+  near-rows : countAt b (front form) ≤ permissionLimit → past codes b (front form) ≤ 66
   unfolding past
-  near-rows h = omega arith
+  near-rows h = omega (arith, near-front form)
 
-  near-policies : (at : ℕ) → at ≤ 65 → countAt b at ≤ rowLimit → past rows b at ≤ 578
+  near-policies : (at : ℕ) → at ≤ 66 → countAt b at ≤ rowLimit → past (rowsOf form) b at ≤ 835
   unfolding past
-  near-policies at h few = omega arith
+  near-policies at h few = omega (arith, near-row form (countAt b at) few)
 
   -- from the policies on
-  policies-agree : (s : Starts) (listed at : ℕ) → at ≤ 578
+  policies-agree : (s : Starts) (listed at : ℕ) → at ≤ 835
       → firstFault read.Refused (read.Good s) (sectionLooks policies a listed at ++ (endLook a (past policies a at) ∷ []))
       ≡ firstFault read.Refused (read.Good s) (sectionLooks policies b listed at ++ (endLook b (past policies b at) ∷ []))
   unfolding past firstFault
   policies-agree s listed at h =
-      section-agree 804 a b same policies read.Refused (read.Good s) (read.Good s) _ _ listed at policyLimit few-policies (λ c l. omega arith) λ few.
+      section-agree 1061 a b same policies read.Refused (read.Good s) (read.Good s) _ _ listed at policyLimit few-policies (λ c l. omega arith) λ few.
       rw (same .bytes at (omega arith), same .beyond (at + 1 + 7 * countAt b at) (omega arith))
 
   -- from the rows on
-  rows-agree : (listed at : ℕ) → at ≤ 65
-      → firstFault read.Refused (read.Good (record { permissions = 0; rows = at; policies = past rows a at }))
-      (sectionLooks rows a listed at ++ (sectionLooks policies a listed (past rows a at) ++ (endLook a (past policies a (past rows a at)) ∷ [])))
-      ≡ firstFault read.Refused (read.Good (record { permissions = 0; rows = at; policies = past rows b at }))
-      (sectionLooks rows b listed at ++ (sectionLooks policies b listed (past rows b at) ++ (endLook b (past policies b (past rows b at)) ∷ [])))
+  rows-agree : (listed at : ℕ) → at ≤ 66
+      → firstFault read.Refused (read.Good (record { permissions = front form; rows = at; policies = past (rowsOf form) a at }))
+      (sectionLooks (rowsOf form) a listed at ++ (sectionLooks policies a listed (past (rowsOf form) a at) ++ (endLook a (past policies a (past (rowsOf form) a at)) ∷ [])))
+      ≡ firstFault read.Refused (read.Good (record { permissions = front form; rows = at; policies = past (rowsOf form) b at }))
+      (sectionLooks (rowsOf form) b listed at ++ (sectionLooks policies b listed (past (rowsOf form) b at) ++ (endLook b (past policies b (past (rowsOf form) b at)) ∷ [])))
   rows-agree listed at h =
-      section-agree 804 a b same rows read.Refused _ _ _ _ listed at rowLimit few-rows (λ c l. omega arith) λ few.
-      rw (past-rows-agree at h) (policies-agree _ listed (past rows b at) (near-policies at h few))
+      section-agree 1061 a b same (rowsOf form) read.Refused _ _ _ _ listed at rowLimit (few-rows form) (λ c l. omega (arith, near-row form c l)) λ few.
+      rw (past-rows-agree at h) (policies-agree _ listed (past (rowsOf form) b at) (near-policies at h few))
 
-  -- what is the same below 804 has the same reply
-  pub book-agree : readOf a ≡ readOf b
-  unfolding readOf
-  book-agree =
-      section-agree 804 a b same codes read.Refused _ _ _ _ 0 0 permissionLimit few-codes (λ c l. omega arith) λ few.
-      rw (past-codes-agree, same .bytes 0 (omega arith)) (rows-agree (listedIn b) (past codes b 0) (near-rows few))
+  by-form-agree : readBy form a ≡ readBy form b
+  by-form-agree =
+      section-agree 1061 a b same codes read.Refused _ _ _ _ 0 (front form) permissionLimit few-codes (λ c l. omega (arith, near-front form)) λ few.
+      rw (past-codes-agree, same .bytes (front form) (omega (arith, near-front form))) (rows-agree (listedIn form b) (past codes b (front form)) (near-rows few))
 
--- the reply to a byte string is that to its first 804 bytes
-pub prefix-reply : (book : List ℕ) → readOf book ≡ readOf (take 804 book)
-prefix-reply book = book-agree book (take 804 book) (agree-take 804 book)
+-- the first byte tells the form
+form-agree : (a b : List ℕ) → Agree 1061 a b → formOf a ≡ formOf b
+unfolding formOf
+form-agree a b same = rw (same .bytes 0 (omega arith))
+
+-- what is the same below 1061 has the same reply
+pub book-agree : (a b : List ℕ) → Agree 1061 a b → readOf a ≡ readOf b
+unfolding readOf
+book-agree a b same = ap (λ (f : Form). readBy f a) (form-agree a b same) ∙ by-form-agree a b same (formOf b)
+
+-- the reply to a byte string is that to its first 1061 bytes
+pub prefix-reply : (book : List ℕ) → readOf book ≡ readOf (take 1061 book)
+prefix-reply book = book-agree book (take 1061 book) (agree-take 1061 book)

@@ -7,8 +7,8 @@ use mathlib.Core.List.{List, [], _∷_, _++_}
 use Prim.Native.Nat.{ℕ, zero, suc, _+_, _≤_}
 use native.Mathlib.Omega.{arith}
 use lib.Dec.{eqb, ltb}
-use lib.ListN.{length}
-use borrow.Author.Tests.{ltb-false}
+use lib.ListN.{length, getD}
+use borrow.Author.Tests.{ltb-false, eqb-true}
 use Rattle.roster.specs.Limits.{awayLimit, crewLimit, sizeLimit}
 use Rattle.roster.specs.Refusals.{refusedIf, outside, policyRuling, ownRuling, madeBy, made}
 use Rattle.roster.specs.declared.Policy.{Policy}
@@ -17,12 +17,13 @@ use Rattle.roster.specs.declared.Ruling.{Ruling}
 use Rattle.roster.specs.declared.Ruling.the-variants.{Admitted}
 use Rattle.book.specs.Layout.{Each}
 use Rattle.book.specs.Faults.{faultNumber, BookNumber}
-use Rattle.book.specs.Reading.{Kind, Found, faultIf, notAbove, pastListed, staffOf, rowLook, wholeThen, byMade, codes, rows, policies, width, entryAt, prior, countLook, entryLook, inTurn, countAt, sectionLooks, past, listedIn, endLook, looksFromPolicies, looksFromRows, looks, readOf}
+use Rattle.book.specs.Reading.{Kind, Found, faultIf, notAbove, pastListed, staffOf, rowLook, wholeThen, byMade, codes, rowsOf, policies, width, entryAt, prior, countLook, entryLook, inTurn, countAt, sectionLooks, past, formBy, formOf, front, listedIn, endLook, looksFromPolicies, looksFromRows, looks, readOf}
 use Rattle.book.specs.Promises.{AllSound}
 use Rattle.book.specs.Laws.First.{not-faulty}
-use Rattle.book.specs.Laws.Books.{rowsAt, policiesAt, refused-first-fault}
+use Rattle.book.specs.Laws.Places.{counted}
+use Rattle.book.specs.Laws.Books.{rowsAt, policiesAt, rowCodecOf, refused-first-fault}
 use Rattle.book.specs.Laws.Sections.{section-sound}
-use Rattle.book.specs.Laws.Values.{code-codec, row-codec, policy-codec}
+use Rattle.book.specs.Laws.Values.{code-codec, policy-codec}
 use Rattle.book.specs.declared.Fault.{Fault}
 use Rattle.book.specs.declared.Fault.the-variants as fault
 use Rattle.book.specs.declared.Look.{Look}
@@ -105,12 +106,16 @@ module _ {A : Type 0} (kind : Kind A) (count : BookNumber (faultNumber (kind .co
 looks-told : (book : List ℕ) → AllTold (looks book)
 unfolding Each
 looks-told book =
-    let n = listedIn book in
-    let end = past policies book (policiesAt book) in
-    all-append (sectionLooks codes book 0 0) (looksFromRows book (rowsAt book)) (section-told codes (inr (omega arith, omega arith)) told-code book 0 0)
-    (all-append (sectionLooks rows book n (rowsAt book)) (looksFromPolicies book (policiesAt book)) (section-told rows (inr (omega arith, omega arith)) (λ listed before row. told-row (notAbove (staffOf before) (row .staff)) (pastListed listed (row .holdings))) book n (rowsAt book))
-    (all-append (sectionLooks policies book n (policiesAt book)) (endLook book end ∷ [])
-    (section-told policies (inr (omega arith, omega arith)) told-policy book n (policiesAt book))
+    let form = formOf book in
+    let n = listedIn form book in
+    let second = rowsAt form book in
+    let third = policiesAt form book in
+    let end = past policies book third in
+    all-append (sectionLooks codes book 0 (front form)) (looksFromRows form book second) (section-told codes (inr (omega arith, omega arith)) told-code book 0 (front form))
+    (all-append (sectionLooks (rowsOf form) book n second) (looksFromPolicies form book third)
+    (section-told (rowsOf form) (inr (omega arith, omega arith)) (λ listed before row. told-row (notAbove (staffOf before) (row .staff)) (pastListed listed (row .holdings))) book n second)
+    (all-append (sectionLooks policies book n third) (endLook book end ∷ [])
+    (section-told policies (inr (omega arith, omega arith)) told-policy book n third)
     (told-if (ltb end (length book)) fault.Excess Sound (inr (omega arith, omega arith)) tt, tt)))
 
 -- a refused book's number is one of 2 to 5 or of 11 to 19
@@ -149,18 +154,23 @@ module _ (book : List ℕ) where
     unfolding Reached sectionLooks countLook
     section-reached at h = (h, λ e. in-turn-reached Nothing (at + 1) (countAt book at) (ltb-false _ _ (not-faulty _ _ _ e .0)))
 
+  -- a book that starts with 200 is not empty
+  front-reached : (b : Bool) → eqb (getD book 0 0) 200 ≡ b → front (formBy b) ≤ length book
+  front-reached false e = omega arith
+  front-reached true e = counted book 0 199 (omega (arith, eqb-true (getD book 0 0) 200 e))
+
   looks-reached : Reached (looks book)
-  unfolding Reached
+  unfolding Reached formOf
   looks-reached =
-      let n = listedIn book in
-      let one = sectionLooks codes book 0 0 in
-      let two = sectionLooks rows book n (rowsAt book) in
-      let three = sectionLooks policies book n (policiesAt book) in
-      let end = past policies book (policiesAt book) in
-      reached-append one (looksFromRows book (rowsAt book)) (section-reached codes 0 0 (omega arith)) (λ a.
-      reached-append two (looksFromPolicies book (policiesAt book)) (section-reached rows n (rowsAt book) (section-sound codes _ code-codec book 0 0 a .whole)) (λ b.
-      reached-append three (endLook book end ∷ []) (section-reached policies n (policiesAt book) (section-sound rows _ row-codec book n (rowsAt book) b .whole)) (λ c.
-      (section-sound policies _ policy-codec book n (policiesAt book) c .whole, λ e. tt))))
+      let form = formOf book in
+      let n = listedIn form book in
+      let second = rowsAt form book in
+      let third = policiesAt form book in
+      let end = past policies book third in
+      reached-append (sectionLooks codes book 0 (front form)) (looksFromRows form book second) (section-reached codes 0 (front form) (front-reached (eqb (getD book 0 0) 200) refl)) (λ a.
+      reached-append (sectionLooks (rowsOf form) book n second) (looksFromPolicies form book third) (section-reached (rowsOf form) n second (section-sound codes _ code-codec book 0 (front form) a .whole)) (λ b.
+      reached-append (sectionLooks policies book n third) (endLook book end ∷ []) (section-reached policies n third (section-sound (rowsOf form) _ (rowCodecOf form) book n second b .whole)) (λ c.
+      (section-sound policies _ policy-codec book n third c .whole, λ e. tt))))
 
 -- a refused book's place is at most the book's length
 pub refused-place : (book : List ℕ) (f : Fault) (at : ℕ) → readOf book ≡ read.Refused f at → at ≤ length book

@@ -22,9 +22,11 @@ use Rattle.book.specs.declared.Look.the-variants.{Sound}
 use Rattle.book.specs.declared.Before.{Before}
 use Rattle.book.specs.declared.Before.the-variants.{Nothing, Entry}
 
--- a value and its fields
-pub record Codec {A : Type 0} (kind : Kind A) (fields : A → List ℕ) : Type 0 where
-  pub back : (x : A) → kind .value (fields x) ≡ x
+-- a value and its fields; `own` says that it has these fields and no others
+pub record Codec {A : Type 0} (kind : Kind A) (fields : A → List ℕ) : Type 1 where
+  pub own : A → Type 0
+  pub back : (x : A) → own x → kind .value (fields x) ≡ x
+  pub read : (book : List ℕ) (at : ℕ) → own (entryAt kind book at)
   pub forth : (book : List ℕ) (at : ℕ) → fields (entryAt kind book at) ≡ fieldsAt (kind .widths) book at
 
 module _ {A : Type 0} (kind : Kind A) (fields : A → List ℕ) (codec : Codec kind fields) where
@@ -32,7 +34,7 @@ module _ {A : Type 0} (kind : Kind A) (fields : A → List ℕ) (codec : Codec k
   bytesFor x = fieldBytes (kind .widths) (fields x)
 
   abbrev pub Fits : A → Type 0
-  Fits x = Fit (kind .widths) (fields x)
+  Fits x = Fit (kind .widths) (fields x) × codec .own x
 
   -- ---- writing and reading
 
@@ -41,7 +43,7 @@ module _ {A : Type 0} (kind : Kind A) (fields : A → List ℕ) (codec : Codec k
   joined-length [] f = omega arith
   joined-length (x ∷ vs) f =
       length-append (bytesFor x) (joined bytesFor vs)
-      ∙ omega (arith, fields-length (kind .widths) (fields x) (f .0), joined-length vs (f .1), mul-suc (width kind) (length vs))
+      ∙ omega (arith, fields-length (kind .widths) (fields x) (f .0 .0), joined-length vs (f .1), mul-suc (width kind) (length vs))
 
   pub entries-read : (vs : List A) (book : List ℕ) (at : ℕ) (rest : List ℕ)
       → Each Fits vs → drop at book ≡ joined bytesFor vs ++ rest → entriesAt kind book at (length vs) ≡ vs
@@ -49,10 +51,10 @@ module _ {A : Type 0} (kind : Kind A) (fields : A → List ℕ) (codec : Codec k
   entries-read [] book at rest f e = refl
   entries-read (x ∷ vs) book at rest f e =
       let e′ = e ∙ append-assoc (bytesFor x) (joined bytesFor vs) rest in
-      let here = ap (kind .value) (fields-read (kind .widths) (fields x) book at (joined bytesFor vs ++ rest) (f .0) e′) ∙ codec .back x in
+      let here = ap (kind .value) (fields-read (kind .widths) (fields x) book at (joined bytesFor vs ++ rest) (f .0 .0) e′) ∙ codec .back x (f .0 .1) in
       let there = after book at (bytesFor x) (joined bytesFor vs ++ rest) e′ in
       let next : drop (at + width kind) book ≡ joined bytesFor vs ++ rest =
-      ap (λ (k : ℕ). drop (at + k) book) (sym (fields-length (kind .widths) (fields x) (f .0))) ∙ there in
+      ap (λ (k : ℕ). drop (at + k) book) (sym (fields-length (kind .widths) (fields x) (f .0 .0))) ∙ there in
       rw (here, entries-read vs book (at + width kind) rest (f .1) next)
 
   pub entries-write : (book : List ℕ) (at n : ℕ) → Bytes book → at + width kind * n ≤ length book
@@ -75,7 +77,7 @@ module _ {A : Type 0} (kind : Kind A) (fields : A → List ℕ) (codec : Codec k
   unfolding Each entriesAt
   entries-fit book at zero bytes = tt
   entries-fit book at (suc n) bytes =
-      (rw (codec .forth book at) (fields-fit (kind .widths) book at bytes), entries-fit book (at + width kind) n bytes)
+      ((rw (codec .forth book at) (fields-fit (kind .widths) book at bytes), codec .read book at), entries-fit book (at + width kind) n bytes)
 
   -- what is known of a section where its layout stands
   pub record Stands (vs : List A) (book : List ℕ) (at : ℕ) (rest : List ℕ) : Type 0 where

@@ -14,7 +14,7 @@ use Rattle.roster.specs.Laws.Rulings.{policy-within}
 use Rattle.roster.specs.declared.Policy.{Policy}
 use Rattle.roster.specs.declared.Ruling.{Ruling}
 use Rattle.roster.specs.declared.Ruling.the-variants as ruling
-use Rattle.book.specs.Layout.{codeFields, rowFields, policyFields, permissionLimit, Each, Below, Ascends, PolicyFits}
+use Rattle.book.specs.Layout.{codeFields, rowFields, policyFields, permissionLimit, Own, Each, Below, Ascends, PolicyFits}
 use Rattle.book.specs.Reading.{Kind, fieldsAt, pastListed, rowLook, codes, rows, policies, byMade}
 use Rattle.book.specs.Laws.Codec.{Fit}
 use Rattle.book.specs.Laws.First.{not-faulty, no-fault}
@@ -27,15 +27,19 @@ use Rattle.book.specs.declared.Look.the-variants.{Sound}
 
 pub code-codec : Codec codes codeFields
 unfolding fieldsAt
-code-codec = record { back = λ x. refl; forth = λ book at. refl }
+code-codec = record { own = λ x. Unit {0}; back = λ x o. refl; read = λ book at. tt; forth = λ book at. refl }
 
-pub row-codec : Codec rows rowFields
-unfolding fieldsAt
-row-codec = record { back = λ x. refl; forth = λ book at. refl }
+old-back : (x : Row) → Own false x → rows false .value (rowFields false x) ≡ x
+old-back x o = rw o
 
-pub policy-codec : Codec policies policyFields
+pub row-codec : (persons : Bool) → Codec (rows persons) (rowFields persons)
 unfolding fieldsAt
-policy-codec = record { back = λ x. refl; forth = λ book at. refl }
+row-codec false = record { own = Own false; back = old-back; read = λ book at. refl; forth = λ book at. refl }
+row-codec true = record { own = Own true; back = λ x o. refl; read = λ book at. tt; forth = λ book at. refl }
+
+unfoldable pub policy-codec : Codec policies policyFields
+unfolding fieldsAt
+policy-codec = record { own = λ x. Unit {0}; back = λ x o. refl; read = λ book at. tt; forth = λ book at. refl }
 
 -- ---- lists
 
@@ -98,19 +102,19 @@ row-sound true true e = (cc, cc)
 sound-row : {low beyond : Bool} → low ≡ false → beyond ≡ false → rowLook low beyond ≡ Sound
 sound-row l b = rw (l, b)
 
-row-there : (listed : ℕ) (before : Option Row) (x : Row) (l : List Row) → rows .faults listed before x ≡ Sound
+row-there : (persons : Bool) (listed : ℕ) (before : Option Row) (x : Row) (l : List Row) → rows persons .faults listed before x ≡ Sound
     → After (λ row. row .staff) before (x ∷ l) × (x .holdings < 2 ^ listed)
 unfolding Below
-row-there listed none x l e = (tt, leb-false (2 ^ listed) (x .holdings) (row-sound false (pastListed listed (x .holdings)) e .1))
-row-there listed (some y) x l e =
+row-there persons listed none x l e = (tt, leb-false (2 ^ listed) (x .holdings) (row-sound false (pastListed listed (x .holdings)) e .1))
+row-there persons listed (some y) x l e =
     let s = row-sound (leb (x .staff) (y .staff)) (pastListed listed (x .holdings)) e in
     (leb-false (x .staff) (y .staff) (s .0), leb-false (2 ^ listed) (x .holdings) (s .1))
 
-row-back : (listed : ℕ) (before : Option Row) (x : Row) (l : List Row)
-    → After (λ row. row .staff) before (x ∷ l) → x .holdings < 2 ^ listed → rows .faults listed before x ≡ Sound
+row-back : (persons : Bool) (listed : ℕ) (before : Option Row) (x : Row) (l : List Row)
+    → After (λ row. row .staff) before (x ∷ l) → x .holdings < 2 ^ listed → rows persons .faults listed before x ≡ Sound
 unfolding Below
-row-back listed none x l a m = sound-row refl (lt-leb (2 ^ listed) (x .holdings) m)
-row-back listed (some y) x l a m = sound-row (lt-leb (x .staff) (y .staff) a) (lt-leb (2 ^ listed) (x .holdings) m)
+row-back persons listed none x l a m = sound-row refl (lt-leb (2 ^ listed) (x .holdings) m)
+row-back persons listed (some y) x l a m = sound-row (lt-leb (x .staff) (y .staff) a) (lt-leb (2 ^ listed) (x .holdings) m)
 
 -- codes have no fault exactly if they ascend
 pub codes-sound : (listed : ℕ) (l : List ℕ) → Faultless codes codeFields code-codec listed none l → Ascends (λ c. c) l
@@ -120,16 +124,16 @@ pub sound-codes : (listed : ℕ) (l : List ℕ) → Ascends (λ c. c) l → Faul
 sound-codes listed l a = ascending codes codeFields code-codec listed (λ c. c) (λ c. Unit {0}) (code-there listed) (code-back listed) none l tt a (each-free l)
 
 -- rows have none exactly if their staff numbers ascend and their holdings are within the listed permissions
-pub rows-sound : (listed : ℕ) (l : List Row) → Faultless rows rowFields row-codec listed none l
+pub rows-sound : (persons : Bool) (listed : ℕ) (l : List Row) → Faultless (rows persons) (rowFields persons) (row-codec persons) listed none l
     → Ascends (λ row. row .staff) l × Each (λ row. row .holdings < 2 ^ listed) l
-rows-sound listed l h =
-    let both = ascend rows rowFields row-codec listed (λ row. row .staff) (λ row. row .holdings < 2 ^ listed) (row-there listed) (row-back listed) none l h in
+rows-sound persons listed l h =
+    let both = ascend (rows persons) (rowFields persons) (row-codec persons) listed (λ row. row .staff) (λ row. row .holdings < 2 ^ listed) (row-there persons listed) (row-back persons listed) none l h in
     (both .1, both .2)
 
-pub sound-rows : (listed : ℕ) (l : List Row) → Ascends (λ row. row .staff) l → Each (λ row. row .holdings < 2 ^ listed) l
-    → Faultless rows rowFields row-codec listed none l
-sound-rows listed l a m =
-    ascending rows rowFields row-codec listed (λ row. row .staff) (λ row. row .holdings < 2 ^ listed) (row-there listed) (row-back listed) none l tt a m
+pub sound-rows : (persons : Bool) (listed : ℕ) (l : List Row) → Ascends (λ row. row .staff) l → Each (λ row. row .holdings < 2 ^ listed) l
+    → Faultless (rows persons) (rowFields persons) (row-codec persons) listed none l
+sound-rows persons listed l a m =
+    ascending (rows persons) (rowFields persons) (row-codec persons) listed (λ row. row .staff) (λ row. row .holdings < 2 ^ listed) (row-there persons listed) (row-back persons listed) none l tt a m
 
 -- ---- policies
 
@@ -161,26 +165,43 @@ sound-policies listed before (p ∷ l) h = (policy-back listed before p (h .0), 
 -- ---- widths: admitted values fit their fields
 
 pub code-fits : (code : ℕ) → code < 2 ^ 16 → Fits codes codeFields code-codec code
-unfolding Fit
-code-fits code h = (h, tt)
+unfolding Fit code-codec
+code-fits code h = ((h, tt), tt)
 
 pub fits-code : (code : ℕ) → Fits codes codeFields code-codec code → code < 2 ^ 16
 unfolding Fit
-fits-code code h = h .0
+fits-code code h = h .0 .0
 
-pub row-fits : (listed : ℕ) → listed ≤ permissionLimit → (row : Row)
-    → (row .staff < 2 ^ 32) × (row .holdings < 2 ^ listed) → Fits rows rowFields row-codec row
-unfolding Fit
-row-fits listed few row h = (h .0, (lt-of-lt-of-le (h .1) (pow-mono few), tt))
+-- a row's numbers fit their fields, and it has the fields of its form and no others
+pub record RowFits (persons : Bool) (listed : ℕ) (row : Row) : Type 0 where
+  pub staff : row .staff < 2 ^ 32
+  pub person : row .person < 2 ^ 32
+  pub own : Own persons row
+  pub holdings : row .holdings < 2 ^ listed
 
-pub fits-row : (row : Row) → Fits rows rowFields row-codec row → row .staff < 2 ^ 32
-unfolding Fit
-fits-row row h = h .0
+pub each-row-fits : (persons : Bool) (listed : ℕ) (l : List Row) → Each (λ row. row .staff < 2 ^ 32) l → Each (λ row. row .person < 2 ^ 32) l
+    → Each (Own persons) l → Each (λ row. row .holdings < 2 ^ listed) l → Each (RowFits persons listed) l
+unfolding Each
+each-row-fits persons listed [] s p o h = tt
+each-row-fits persons listed (x ∷ l) s p o h =
+    (record { staff = s .0; person = p .0; own = o .0; holdings = h .0 }, each-row-fits persons listed l (s .1) (p .1) (o .1) (h .1))
+
+pub row-fits : (persons : Bool) (listed : ℕ) → listed ≤ permissionLimit → (row : Row) → RowFits persons listed row
+    → Fits (rows persons) (rowFields persons) (row-codec persons) row
+unfolding Fit row-codec
+row-fits false listed few row h = ((h .staff, (lt-of-lt-of-le (h .holdings) (pow-mono few), tt)), h .own)
+row-fits true listed few row h = ((h .staff, (h .person, (lt-of-lt-of-le (h .holdings) (pow-mono few), tt))), tt)
+
+pub fits-row : (persons : Bool) (row : Row) → Fits (rows persons) (rowFields persons) (row-codec persons) row
+    → (row .staff < 2 ^ 32) × (row .person < 2 ^ 32) × Own persons row
+unfolding Fit row-codec
+fits-row false row h = let o : row .person ≡ row .staff = h .1 in (h .0 .0, omega (arith, h .0 .0), o)
+fits-row true row h = (h .0 .0, h .0 .1 .0, tt)
 
 pub policy-fits : (listed : ℕ) → listed ≤ permissionLimit → (p : Policy) → PolicyFits listed p → Fits policies policyFields policy-codec p
-unfolding Fit
+unfolding Fit policy-codec
 policy-fits listed few p f =
     let w = policy-within _ _ _ _ _ (f .sound) in (
-      lt-of-lt-of-le (f .task) (pow-mono few),
-      (omega (arith, w .away), (omega (arith, w .few), (omega (arith, w .small), tt))),
+      (lt-of-lt-of-le (f .task) (pow-mono few), (omega (arith, w .away), (omega (arith, w .few), (omega (arith, w .small), tt)))),
+      tt,
     )

@@ -1,4 +1,4 @@
--- The view: lent bytes have one view, what it answers of a row is the row of the bytes, and that agrees with their table. Assumes nothing.
+-- The view: lent bytes have one view, what it answers of a row is the row of the bytes, and that agrees with their accounts. Assumes nothing.
 use mathlib.Core.Path.{_≡_, refl, sym, ap, _∙_}
 use mathlib.Core.Logic.{_⊎_, inl, inr}
 use mathlib.Core.Option.{Option, some, none}
@@ -9,11 +9,11 @@ use lib.ListN.{length, getD, getElem?}
 use denote.Ref.{RefT, now}
 use Rattle.sets.specs.Laws.Arrays.{at-tabulate}
 use Rattle.roster.specs.Limits.{rowLimit}
-use Rattle.roster.specs.declared.Table.{Table}
+use Rattle.accounts.specs.declared.Accounts.{Accounts}
 use Rattle.book.specs.Layout.{Contents}
-use Rattle.book.specs.Reading.{startsOf}
-use Rattle.book.specs.Parts.{contentsOf, rowAt, rowByNumber, rowOf, heldOr0, tableOf}
-use Rattle.book.specs.Promises.{Bytes, rowBy, PartsOf, nothing, ViewOf}
+use Rattle.book.specs.Reading.{formOf, startsOf}
+use Rattle.book.specs.Parts.{contentsOf, rowAt, rowByNumber, rowOf, rowOr0, accountsIn}
+use Rattle.book.specs.Promises.{Bytes, rowBy, accountsFor, PartsOf, nothing, ViewOf}
 use Rattle.book.specs.Laws.Books.{Good, Refused, reply, good-layout}
 use Rattle.book.specs.Laws.Parts.{layout-parts, refused-parts}
 use Rattle.book.specs.declared.Row.{Row}
@@ -42,7 +42,7 @@ pub rows-same : (a b : RefT (List ℕ)) (v w : Book) → now a ≡ now b → Vie
 rows-same a b v w e av bw row =
     view-row a v av row ∙ ap (λ (book : List ℕ). rowByNumber book row) e ∙ sym (view-row b w bw row)
 
--- ---- the view agrees with the table
+-- ---- the view agrees with the accounts
 
 -- the parts of any byte string are those of some values with few enough rows
 pub record SomeParts (book : List ℕ) : Type 0 where
@@ -55,9 +55,9 @@ some-parts book bytes = go (reply book)
   where
     go : Good book ⊎ Refused book → SomeParts book
     go (inl g) =
-        let l = good-layout book (startsOf book) bytes (g .reply) in
+        let l = good-layout book (startsOf (formOf book) book) bytes (g .reply) in
         record { values = contentsOf book; few = l .admitted .rows; parts = layout-parts (contentsOf book) book l }
-    go (inr r) = record { values = nothing; few = omega arith; parts = refused-parts book (r .fault) (r .place) (r .reply) }
+    go (inr r) = record { values = nothing (formOf book); few = omega arith; parts = refused-parts book (r .fault) (r .place) (r .reply) }
 
 -- a place within a list has something there
 pub there : {A : Type 0} (l : List A) (i : ℕ) → i < length l → (x : A) × (getElem? l i ≡ some x)
@@ -65,32 +65,44 @@ there [] i h = absurd (omega arith)
 there (x ∷ l) zero h = (x, refl)
 there (x ∷ l) (suc i) h = there l i (omega arith)
 
-not-there : {A : Type 0} (l : List A) (i : ℕ) → length l ≤ i → getElem? l i ≡ none
+pub not-there : {A : Type 0} (l : List A) (i : ℕ) → length l ≤ i → getElem? l i ≡ none
 not-there [] i h = refl
 not-there (x ∷ l) zero h = absurd (omega arith)
 not-there (x ∷ l) (suc i) h = not-there l i (omega arith)
 
--- what is answered of a row, beside a table: a row of the table with what it holds there, and "no such row" past the last
-pub record RowSeen (table : Table) (row : ℕ) (r : Seen) : Type 0 where
-  pub held : row < table .rows → (staff : ℕ) × (r ≡ seen.Row (record { staff = staff; holdings = getD (table .holdings) row 0 }))
-  pub past : table .rows ≤ row → r ≡ seen.NoSuchRow
+-- what is answered of a row, beside accounts: a row of them with its person number and what it holds there, and "no such row" past the last
+pub record RowSeen (a : Accounts) (row : ℕ) (r : Seen) : Type 0 where
+  pub held : row < a .rows
+      → (staff : ℕ) × (r ≡ seen.Row (record { staff = staff; person = getD (a .persons) row 0; holdings = getD (a .holdings) row 0 }))
+  pub past : a .rows ≤ row → r ≡ seen.NoSuchRow
 
-row-agrees : (book : List ℕ) → Bytes book → (row : ℕ) → RowSeen (tableOf book) row (rowByNumber book row)
+-- what the accounts of these values have of a row
+pub account-of : (v : Contents) (row : ℕ) (x : Row) → row < rowLimit → getElem? (v .rows) row ≡ some x
+    → (getD (accountsFor v .persons) row 0 ≡ x .person) × (getD (accountsFor v .holdings) row 0 ≡ x .holdings)
+account-of v row x h e =
+    let at : Option Row → Row = λ o. rowOr0 (rowBy o) in (
+      at-tabulate rowLimit (λ i. at (getElem? (v .rows) i) .person) row h ∙ ap (λ (o : Option Row). at o .person) e,
+      at-tabulate rowLimit (λ i. at (getElem? (v .rows) i) .holdings) row h ∙ ap (λ (o : Option Row). at o .holdings) e,
+    )
+
+seen-with : {s p p′ h h′ : ℕ} → p ≡ p′ → h ≡ h′
+    → _≡_ {A = Seen} (seen.Row (record { staff = s; person = p; holdings = h })) (seen.Row (record { staff = s; person = p′; holdings = h′ }))
+seen-with e f = rw (e, f)
+
+values-agree : (v : Contents) → length (v .rows) ≤ rowLimit → (row : ℕ) → RowSeen (accountsFor v) row (rowBy (getElem? (v .rows) row))
+values-agree v few row = record {
+  held = λ l.
+      let here = there (v .rows) row l in
+      let has = account-of v row (here .0) (omega (arith, few)) (here .1) in
+      (here .0 .staff, ap rowBy (here .1) ∙ seen-with (sym (has .0)) (sym (has .1)));
+  past = λ l. ap rowBy (not-there (v .rows) row l);
+}
+
+row-agrees : (book : List ℕ) → Bytes book → (row : ℕ) → RowSeen (accountsIn book) row (rowByNumber book row)
 row-agrees book bytes row =
     let parts = some-parts book bytes in
-    let v = parts .values in
     let p = parts .parts in
-    let count : tableOf book .rows ≡ length (v .rows) = ap (λ (t : Table). t .rows) (p .table) in
-    let held : Option Row → ℕ = λ o. heldOr0 (rowBy o) in
-    record {
-      held = λ l.
-          let here = there (v .rows) row (omega arith) in
-          let stands = ap (λ (t : Table). getD (t .holdings) row 0) (p .table)
-          ∙ at-tabulate rowLimit (λ i. held (getElem? (v .rows) i)) row (omega (arith, parts .few))
-          ∙ ap held (here .1) in
-          (here .0 .staff, p .row row ∙ ap rowBy (here .1) ∙ ap (λ (h : ℕ). seen.Row (record { staff = here .0 .staff; holdings = h })) (sym stands));
-      past = λ l. p .row row ∙ ap rowBy (not-there (v .rows) row (omega arith));
-    }
+    rw (p .accounts, p .row row) (values-agree (parts .values) (parts .few) row)
 
-pub view-agrees : (bytes : RefT (List ℕ)) (v : Book) → ViewOf bytes v → Bytes (now bytes) → (row : ℕ) → RowSeen (tableOf (now bytes)) row (rowOf v row)
+pub view-agrees : (bytes : RefT (List ℕ)) (v : Book) → ViewOf bytes v → Bytes (now bytes) → (row : ℕ) → RowSeen (accountsIn (now bytes)) row (rowOf v row)
 view-agrees bytes v a b row = rw (view-row bytes v a row) (row-agrees (now bytes) b row)

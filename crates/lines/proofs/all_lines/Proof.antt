@@ -1,11 +1,14 @@
 -- The loop writes one policy's line after the other. Its measure is how many are left. Assumes nothing.
-use mathlib.Core.Path.{_≡_, sym, ap}
+use mathlib.Core.Path.{_≡_, sym, ap, _∙_}
 use mathlib.Core.List.{List, [], _++_}
 use Prim.Native.Nat.{ℕ, suc, _-_, _≤_, _<_}
 use native.Mathlib.Numerals.{add-one}
 use native.Mathlib.Omega.{arith}
-use Rattle.book.specs.Parts.{policyCount, policyAt}
-use Rattle.lines.specs.Sheet.{lineBy, linesFrom}
+use Rattle.accounts.specs.declared.Accounts.{Accounts}
+use Rattle.accounts.specs.declared.People.{People}
+use Rattle.accounts.specs.Persons.{peopleOf}
+use Rattle.book.specs.Parts.{accountsIn, policyCount, policyAt}
+use Rattle.lines.specs.Sheet.{numbersIn, lineBy, linesFrom}
 use Rattle.text.specs.Laws.Appends.{SoFar, begin, step, with-rest, finish, same, read-as}
 use Rattle.lines.proofs.all_lines.Statement.{statement}
 use Rattle.lines.proofs.all_lines.Tie as tie
@@ -20,36 +23,42 @@ last : (book : List ℕ) (index count : ℕ) → count ≤ index → linesFrom b
 unfolding linesFrom
 last book index count h = let e : count - index ≡ 0 = omega arith in ap (linesFrom book index) e
 
+-- the numbers that are printed are those of the merged accounts
+named : (book : List ℕ) {a : Accounts} {people : People} → people ≡ peopleOf a → a ≡ accountsIn book → people .numbers ≡ numbersIn book
+unfolding numbersIn
+named book e h = ap (λ (x : People). x .numbers) (e ∙ ap peopleOf h)
+
 abbrev Inv-loop : tie.InvT-loop
-Inv-loop book out₀ table staff count at₀ index₀ out at index =
+Inv-loop book out₀ accounts numbers count at₀ index₀ out at index =
     (index ≤ count) × SoFar (linesFrom book 0 count) (linesFrom book index (count - index)) out₀ 0 out at
 
 abbrev μ-loop : tie.MeasureT-loop
-μ-loop book out₀ table staff count at₀ index₀ out at index = count - index
+μ-loop book out₀ accounts numbers count at₀ index₀ out at index = count - index
 
-table-of-requires : tie.Need-table-of-requires Inv-loop μ-loop
-table-of-requires c κs = tt
+accounts-of-requires : tie.Need-accounts-of-requires Inv-loop μ-loop
+accounts-of-requires c κs = tt
 
-all-staff-requires : tie.Need-all-staff-requires Inv-loop μ-loop
-all-staff-requires c κs = tt
+merged-requires : tie.Need-merged-requires Inv-loop μ-loop
+merged-requires c κs = tt
 
 policy-count-requires : tie.Need-policy-count-requires Inv-loop μ-loop
 policy-count-requires c κs = tt
 
 loop-holds : tie.Need-loop-holds Inv-loop μ-loop
 loop-holds c =
-    let book = c .before .before .before .before .before .args .book .now in
+    let book = c .before .before .before .before .before .before .args .book .now in
     let e : c .policy-count .result ≡ c .policy-count .result - 0 = omega arith in
     (omega arith, with-rest (ap (linesFrom book 0) e) (begin (linesFrom book 0 (c .policy-count .result)) _ _))
 
 -- all the lines, by the count that was read
-all : (c : tie.After-policy-count Inv-loop μ-loop) → let book = c .before .before .before .before .before .args .book .now in linesFrom book 0 (c .policy-count .result) ≡ linesFrom book 0 (policyCount book)
-all c = ap (linesFrom (c .before .before .before .before .before .args .book .now) 0) (c .policy-count .ensures .0)
+all : (c : tie.After-policy-count Inv-loop μ-loop) → let book = c .before .before .before .before .before .before .args .book .now in linesFrom book 0 (c .policy-count .result) ≡ linesFrom book 0 (policyCount book)
+all c = ap (linesFrom (c .before .before .before .before .before .before .args .book .now) 0) (c .policy-count .ensures .0)
 
 policy-line-requires : tie.Need-policy-line-requires Inv-loop μ-loop
 policy-line-requires c κs =
-    let p = c .before .before .before .before in
-    (p .before .all-staff .ensures, p .before .before .table-of .ensures .0)
+    let m = c .before .before .before .before .before .before in
+    let accounts = m .before .accounts-of .ensures .0 in
+    (named (m .before .before .before .before .args .book .now) (m .merged .ensures) accounts, accounts)
 
 add-index : tie.Need-add-index Inv-loop μ-loop
 add-index c = omega arith
@@ -61,7 +70,7 @@ loop-again : tie.Need-loop-again Inv-loop μ-loop
 loop-again c =
     let l = c .before .before .before .before .before .before .loop in
     let p = c .before .before .before .before .before .before .before in
-    let book = p .before .before .before .before .before .args .book .now in
+    let book = p .before .before .before .before .before .before .args .book .now in
     let count = p .policy-count .result in (
       omega arith,
       with-rest (ap (λ (k : ℕ). linesFrom book k (count - k)) (sym (add-one (l .index))))
@@ -76,7 +85,7 @@ returns : tie.Need-returns Inv-loop μ-loop
 returns c =
     let l = c .before .loop in
     let p = c .before .before in
-    let book = p .before .before .before .before .before .args .book .now in
+    let book = p .before .before .before .before .before .before .args .book .now in
     read-as (all p) (finish (with-rest (last book (l .index) (p .policy-count .result) (c .loop-test .left)) (l .inv .1)))
 
 pub all-lines-spec : {M : Type 1} → statement M
@@ -85,8 +94,8 @@ all-lines-spec =
     (tie.spec
     Inv-loop
     μ-loop
-    table-of-requires
-    all-staff-requires
+    accounts-of-requires
+    merged-requires
     policy-count-requires
     loop-holds
     policy-line-requires

@@ -1,15 +1,21 @@
--- What the search replies is the one reply that is allowed (`policy-same`), and it has eight crews. Assumes nothing.
-use mathlib.Core.Path.{_≡_, ap, _∙_}
+-- What is replied is the one reply that is allowed (`policy-asked-same`), and it has eight crews. Assumes nothing.
+use mathlib.Core.Path.{_≡_, refl, ap, _∙_}
 use Prim.Native.Nat.{ℕ, _^_, _<_}
 use lib.ListN.{length}
 use Rattle.roster.specs.Limits.{crewLimit}
 use Rattle.roster.specs.declared.Table.{Table}
 use Rattle.roster.specs.declared.Reply.{Reply}
+use Rattle.roster.specs.declared.Ruling.{Ruling}
+use Rattle.roster.specs.declared.Ruling.the-variants as ruling
 use Rattle.crews.specs.Laws.Exact.{crews-eight}
 use Rattle.absences.specs.Asked.{needPolicy, PolicyReply}
-use Rattle.absences.specs.Replied.{policyReplyOf}
 use Rattle.absences.specs.Laws.Decided.{Case, is-refused, is-undecided, is-yes, is-no, policy-case}
-use Rattle.absences.specs.Laws.Demands.{policy-same, policy-allowed}
+use Rattle.accounts.specs.declared.Accounts.{Accounts}
+use Rattle.accounts.specs.Persons.{merged}
+use Rattle.accounts.specs.Refusals.{accountsRuling}
+use Rattle.questions.specs.Asked.{PolicyAsked}
+use Rattle.questions.specs.Replied.{policyAnswerOf}
+use Rattle.questions.specs.Laws.Replies.{policy-answered, policy-asked-same}
 use Rattle.lines.specs.Lines.{lineOf}
 use Rattle.lines.specs.Sheet.{allowance, way}
 use Rattle.text.specs.Laws.Appends.{read-as}
@@ -28,22 +34,28 @@ module _ (table : Table) (P s d t : ℕ) (wide : P < 2 ^ 32) (r : Reply) (may : 
       go (is-yes e l h) = ap (λ (q : Reply). length (q .crews)) (may .yes e l h) ∙ crews-eight table P d t 0
       go (is-no e l A f) = ap (λ (q : Reply). length (q .crews)) (may .no e l A f)
 
+module _ (a : Accounts) (P s d t : ℕ) (wide : P < 2 ^ 32) (r : Reply) (may : PolicyAsked way a P s d t allowance r) where
+  asked-eight : length (r .crews) ≡ crewLimit
+  asked-eight = go (accountsRuling a) refl
+    where
+      go : (first : Ruling) → accountsRuling a ≡ first → length (r .crews) ≡ crewLimit
+      go ruling.Admitted e = eight (merged a) P s d t wide r (may .admitted e)
+      go (ruling.Refused refusal) e = ap (λ (q : Reply). length (q .crews)) (may .refused refusal e)
+
   -- no other reply is allowed
-  only : r ≡ policyReplyOf way table P s d t allowance
-  only =
-      policy-same way table P s d t wide allowance r (policyReplyOf way table P s d t allowance) may
-      (policy-allowed way table P s d t wide allowance)
+  only : r ≡ policyAnswerOf way a P s d t allowance
+  only = policy-asked-same way a P s d t allowance wide r (policyAnswerOf way a P s d t allowance) may (policy-answered way a P s d t allowance wide)
 
 -- the reply and the line at the place where the search has answered
 answered : (c : tie.After-reply-of)
     → let a = c .before .before .args in
-    lineOf (a .staff .now) (a .index) (c .reply-of .result)
-    ≡ lineOf (a .staff .now) (a .index) (policyReplyOf way (a .table) (a .task) (a .away) (a .crews) (a .size) allowance)
+    lineOf (a .numbers .now) (a .index) (c .reply-of .result)
+    ≡ lineOf (a .numbers .now) (a .index) (policyAnswerOf way (a .accounts) (a .task) (a .away) (a .crews) (a .size) allowance)
 answered c =
     let s = c .before .before in
     let a = s .args in
-    ap (lineOf (a .staff .now) (a .index))
-    (only (a .table) (a .task) (a .away) (a .crews) (a .size) (s .fits .task .fits) (c .reply-of .result) (c .reply-of .ensures))
+    ap (lineOf (a .numbers .now) (a .index))
+    (only (a .accounts) (a .task) (a .away) (a .crews) (a .size) (s .fits .task .fits) (c .reply-of .result) (c .reply-of .ensures))
 
 reply-of-requires : tie.Need-reply-of-requires
 reply-of-requires c κs = search needs
@@ -53,7 +65,7 @@ line-requires c κs =
     let p = c .before in
     let s = p .before .before in
     let a = s .args in
-    eight (a .table) (a .task) (a .away) (a .crews) (a .size) (s .fits .task .fits) (p .reply-of .result) (p .reply-of .ensures)
+    asked-eight (a .accounts) (a .task) (a .away) (a .crews) (a .size) (s .fits .task .fits) (p .reply-of .result) (p .reply-of .ensures)
 
 same-length : tie.Need-same-length
 same-length c = search needs

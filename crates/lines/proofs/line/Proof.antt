@@ -10,16 +10,16 @@ use borrow.Author.Needs.{needs}
 use Rattle.lines.proofs.line.Statement.{statement}
 use Rattle.lines.proofs.line.Tie as tie
 
-parts : (staff : List ℕ) (index : ℕ) (reply : Reply)
+parts : (numbers : List ℕ) (index : ℕ) (reply : Reply)
     → decimal index
     ++ (space ∷ [])
     ++ verdictWord (reply .verdict)
     ++ (space ∷ decimal (reply .units))
-    ++ (space ∷ setsText staff reply (reply .verdict))
+    ++ (space ∷ setsText numbers reply (reply .verdict))
     ++ (newline ∷ [])
-    ≡ lineOf staff index reply
+    ≡ lineOf numbers index reply
 unfolding lineOf marked joined
-parts staff index reply = simp (append-assoc, append-nil)
+parts numbers index reply = simp (append-assoc, append-nil)
 
 decimal-requires : tie.Need-decimal-requires
 decimal-requires c κs = search needs
@@ -54,7 +54,7 @@ returns c =
     let counted = spaced .before .before .before .before in
     let a = counted .before .before .before .args in
     let units = read-as (ap (λ (n : ℕ). space ∷ decimal n) (spent .before .wide .ensures)) (spent .number .ensures) in
-    read-as (parts (a .staff .now) (a .index) (a .reply))
+    read-as (parts (a .numbers .now) (a .index) (a .reply))
     (counted .decimal .ensures
     then spaced .put .ensures
     then judged .verdict-word .ensures

@@ -1,27 +1,27 @@
--- The line is that of the book's table, staff numbers and policy. Assumes nothing.
+-- The line is that of the book's accounts, their numbers and the policy. Assumes nothing.
 use mathlib.Core.Path.{_≡_, sym, ap, ap₂, _∙_}
 use mathlib.Core.List.{List, []}
 use Prim.Native.Nat.{ℕ}
 use Rattle.roster.specs.declared.Policy.{Policy}
-use Rattle.roster.specs.declared.Table.{Table}
-use Rattle.absences.specs.Replied.{policyReplyOf}
-use Rattle.book.specs.Parts.{tableOf, policyAt}
+use Rattle.accounts.specs.declared.Accounts.{Accounts}
+use Rattle.questions.specs.Replied.{policyAnswerOf}
+use Rattle.book.specs.Parts.{accountsIn, policyAt}
 use Rattle.book.specs.declared.Listed.{Listed}
 use Rattle.book.specs.declared.Listed.the-variants as listed
 use Rattle.lines.specs.Lines.{lineOf}
-use Rattle.lines.specs.Sheet.{allowance, way, staffOf, replyTo, lineBy}
+use Rattle.lines.specs.Sheet.{allowance, way, numbersIn, replyTo, lineBy}
 use Rattle.text.specs.Laws.Appends.{none, read-as}
 use borrow.Author.Needs.{needs}
 use Rattle.lines.proofs.policy_line.Statement.{statement}
 use Rattle.lines.proofs.policy_line.Tie as tie
 
-there : (book : List ℕ) (index : ℕ) (staff : List ℕ) (table : Table) (p : Policy) (l : Listed) → staff ≡ staffOf book → table ≡ tableOf book
+there : (book : List ℕ) (index : ℕ) (numbers : List ℕ) (accounts : Accounts) (p : Policy) (l : Listed) → numbers ≡ numbersIn book → accounts ≡ accountsIn book
     → l ≡ policyAt book index → l ≡ listed.Policy p
-    → lineBy book index (policyAt book index) ≡ lineOf staff index (policyReplyOf way table (p .task) (p .away) (p .crews) (p .size) allowance)
+    → lineBy book index (policyAt book index) ≡ lineOf numbers index (policyAnswerOf way accounts (p .task) (p .away) (p .crews) (p .size) allowance)
 unfolding lineBy replyTo
-there book index staff table p l s t e f =
+there book index numbers accounts p l s t e f =
     ap (lineBy book index) (sym e ∙ f)
-    ∙ ap₂ (λ (x : List ℕ) (y : Table). lineOf x index (policyReplyOf way y (p .task) (p .away) (p .crews) (p .size) allowance)) (sym s) (sym t)
+    ∙ ap₂ (λ (x : List ℕ) (y : Accounts). lineOf x index (policyAnswerOf way y (p .task) (p .away) (p .crews) (p .size) allowance)) (sym s) (sym t)
 
 missing : (book : List ℕ) (index : ℕ) (l : Listed) → l ≡ policyAt book index → l ≡ listed.NoSuchPolicy → [] ≡ lineBy book index (policyAt book index)
 unfolding lineBy
@@ -32,11 +32,11 @@ line-there : (c : tie.After-policy)
     → let a = c .before .before .before .before .before .args in
     let p = c .policy .given .0 .0 in
     lineBy (a .book .now) (a .index) (policyAt (a .book .now) (a .index))
-    ≡ lineOf (a .staff .now) (a .index) (policyReplyOf way (a .table) (p .task) (p .away) (p .crews) (p .size) allowance)
+    ≡ lineOf (a .numbers .now) (a .index) (policyAnswerOf way (a .accounts) (p .task) (p .away) (p .crews) (p .size) allowance)
 line-there c =
     let s = c .before .before .before .before .before in
     let a = s .args in
-    there (a .book .now) (a .index) (a .staff .now) (a .table) (c .policy .given .0 .0) (c .before .before .policy-at .result) (s .pre .0) (s .pre .1)
+    there (a .book .now) (a .index) (a .numbers .now) (a .accounts) (c .policy .given .0 .0) (c .before .before .policy-at .result) (s .pre .0) (s .pre .1)
     (c .before .before .policy-at .ensures .0) (c .policy .given .1)
 
 policy-at-requires : tie.Need-policy-at-requires

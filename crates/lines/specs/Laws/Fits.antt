@@ -1,12 +1,14 @@
--- No sheet is longer than `longest`: at most 32 lines, each of at most 726 bytes, since a line names each row at most once. Assumes nothing.
+-- No sheet is longer than `longest`: at most 32 lines, each of at most 726 bytes, since a line names each person at most once. Assumes nothing.
 use mathlib.Core.Path.{_≡_, refl, sym, ap, subst}
 use mathlib.Core.Logic.{⊎-elim}
 use mathlib.Core.List.{List, [], _∷_, _++_, map}
+use mathlib.Core.Bool.{Bool, true, false}
 use Prim.Native.Nat.{ℕ, zero, suc, _+_, _-_, _*_, _^_, _≤_, _<_}
 use native.Mathlib.Nat.{lt-of-lt-of-le}
 use native.Mathlib.Omega.{arith}
 use native.Mathlib.Decide.{decLt}
 use lib.Count.{ones}
+use lib.Dec.{ltb}
 use lib.ListN.{length, getD, take, length-append}
 use lib.Pow.{pow-mono}
 use lib.Seq.{getD-take}
@@ -18,6 +20,7 @@ use Rattle.roster.specs.declared.Verdict.the-variants.{Yes, No, Undecided, Crew
 use Rattle.roster.specs.declared.Reply.{Reply}
 use Rattle.roster.specs.declared.Table.{Table}
 use Rattle.roster.specs.Meaning.{CrewList}
+use Rattle.roster.specs.Replies.{noCrews, replyWith}
 use Rattle.crews.specs.Named.{firstList}
 use Rattle.sets.specs.Arrays.{tabulate}
 use Rattle.sets.specs.Laws.Arrays.{at-tabulate, at-past}
@@ -32,15 +35,23 @@ use Rattle.roster.specs.declared.Refusal.the-variants as refusal
 use Rattle.roster.specs.declared.Policy.{Policy}
 use Rattle.roster.specs.declared.Ruling.{Ruling}
 use Rattle.roster.specs.declared.Ruling.the-variants as ruling
-use Rattle.book.specs.Layout.{Each}
+use Rattle.accounts.specs.declared.Accounts.{Accounts}
+use Rattle.accounts.specs.Persons.{where?, numberOf as Persons·numberOf, persons, number, merged}
+use Rattle.accounts.specs.Refusals.{accountsRuling}
+use Rattle.accounts.specs.Laws.Merged.{at-numbers}
+use Rattle.questions.specs.Replied.{behind, policyAnswerOf}
+use Rattle.book.specs.Layout.{Each, hasPersons}
 use Rattle.book.specs.Faults.{faultNumber}
 use Rattle.book.specs.Promises.{Bytes, FirstFault}
-use Rattle.book.specs.Reading.{fieldsAt, Kind, codes, rows, policies, width, entryAt, entryLook, Found, inTurn, countAt, sectionLooks, past, listedIn, endLook, looksFromPolicies, looksFromRows, looks, startsOf}
-use Rattle.book.specs.Parts.{startsIn, placeOf, rowFrom, rowByNumber, tableOf, contentsOf, policyCount, listedBy, policyFrom, policyAt}
+use Rattle.book.specs.Reading.{fieldsAt, Kind, codes, rows, rowsOf, policies, width, entryAt, entryLook, Found, inTurn, countAt, sectionLooks, past, formOf, front, listedIn, endLook, looksFromPolicies, looksFromRows, looks, startsOf}
+use Rattle.book.specs.Parts.{startsIn, placeOf, rowPlace, rowFrom, rowByNumber, rowOr0, accountsIn, contentsOf, policyCount, listedBy, policyFrom, policyAt}
 use Rattle.book.specs.Laws.Codec.{number-fits}
 use Rattle.book.specs.Laws.Books.{rowsAt, policiesAt, reply, good-layout}
 use Rattle.book.specs.Laws.Books as books
 use Rattle.book.specs.Laws.Parts.{layout-parts}
+use Rattle.book.specs.Laws.Prefix.{near-front}
+use Rattle.book.specs.declared.Form.{Form}
+use Rattle.book.specs.declared.Form.the-variants.{Old, Persons}
 use Rattle.book.specs.declared.Fault.{Fault}
 use Rattle.book.specs.declared.Fault.the-variants.{Short, Permissions, Code, Rows, Staff, Holdings, Policies, Task, Policy as PolicyFault, Excess}
 use Rattle.book.specs.declared.Look.{Look}
@@ -52,7 +63,7 @@ use Rattle.book.specs.declared.Place.{Place}
 use Rattle.book.specs.declared.Place.the-variants as place
 use Rattle.text.specs.Text.{decimal, marked, joined}
 use Rattle.lines.specs.Lines.{verdictWord, names, betweenMembers, setText, filled, betweenCrews, crewsText, setsText, lineOf, badLine}
-use Rattle.lines.specs.Sheet.{allowance, way, staffOr0, staffOf, replyTo, lineBy, linesFrom, sheetBy, sheetOf, longest}
+use Rattle.lines.specs.Sheet.{allowance, way, numbersIn, replyTo, lineBy, linesFrom, sheetBy, sheetOf, longest}
 use Rattle.text.specs.Laws.Decimal.{decimal-length}
 use Rattle.sets.specs.Laws.Unions.{onesOf, Disjoint, disjoint-few}
 
@@ -75,40 +86,40 @@ unfolding joined total
 joined-length between most [] h p = p
 joined-length between most (x ∷ l) h p = omega (arith, length-append x (marked between between l), marked-length between between l)
 
--- ---- members and crews, where every staff number has 32 bits
+-- ---- members and crews, where every number has 32 bits
 
-module _ (staff : List ℕ) (fits : (row : ℕ) → getD staff row 0 < 2 ^ 32) where
-  named : (l : List ℕ) → total (map (λ row. decimal (getD staff row 0)) l) ≤ 11 * length l
+module _ (numbers : List ℕ) (fits : (row : ℕ) → getD numbers row 0 < 2 ^ 32) where
+  named : (l : List ℕ) → total (map (λ row. decimal (getD numbers row 0)) l) ≤ 11 * length l
   unfolding total
   named [] = omega arith
-  named (row ∷ l) = omega (arith, named l, decimal-length 9 (getD staff row 0) (omega (arith, fits row)))
+  named (row ∷ l) = omega (arith, named l, decimal-length 9 (getD numbers row 0) (omega (arith, fits row)))
 
-  names-total : (set : ℕ) → set < 2 ^ 64 → total (names staff set) ≤ 11 * ones set
+  names-total : (set : ℕ) → set < 2 ^ 64 → total (names numbers set) ≤ 11 * ones set
   unfolding names
   names-total set h = omega (arith, named (members 0 64 set), length-members 64 set h)
 
   few : (set : ℕ) → set < 2 ^ 64 → ones set ≤ 64
   few set h = ones-bound set 64 (λ i b. bit-below set 64 i h b)
 
-  set-length : (set : ℕ) → set < 2 ^ 64 → length (setText staff set) ≤ 704
-  set-length set h = joined-length betweenMembers 704 (names staff set) (omega (arith, names-total set h, few set h)) (omega arith)
+  set-length : (set : ℕ) → set < 2 ^ 64 → length (setText numbers set) ≤ 704
+  set-length set h = joined-length betweenMembers 704 (names numbers set) (omega (arith, names-total set h, few set h)) (omega arith)
 
   -- a crew after its mark
-  crew-length : (crew : ℕ) → suc crew < 2 ^ 64 → 1 + length (setText staff (suc crew)) ≤ 11 * ones (suc crew)
+  crew-length : (crew : ℕ) → suc crew < 2 ^ 64 → 1 + length (setText numbers (suc crew)) ≤ 11 * ones (suc crew)
   crew-length crew h =
       let n = ones-pos (suc crew) (omega arith) in
       let t = names-total (suc crew) h in
-      omega (arith, joined-length betweenMembers (11 * (ones (suc crew) - 1) + 10) (names staff (suc crew)) (omega arith) (omega arith))
+      omega (arith, joined-length betweenMembers (11 * (ones (suc crew) - 1) + 10) (names numbers (suc crew)) (omega arith) (omega arith))
 
-  crews-total : (crews : List ℕ) → ((j : ℕ) → getD crews j 0 < 2 ^ 64) → total (map (setText staff) (filled crews)) ≤ 11 * onesOf crews
+  crews-total : (crews : List ℕ) → ((j : ℕ) → getD crews j 0 < 2 ^ 64) → total (map (setText numbers) (filled crews)) ≤ 11 * onesOf crews
   unfolding total filled onesOf
   crews-total [] h = omega arith
   crews-total (zero ∷ l) h = omega arith
   crews-total (suc crew ∷ l) h = omega (arith, crew-length crew (h 0), crews-total l (λ j. h (suc j)))
 
-  crews-length : (crews : List ℕ) → Disjoint crews → ((j : ℕ) → getD crews j 0 < 2 ^ 64) → length (crewsText staff crews) ≤ 704
+  crews-length : (crews : List ℕ) → Disjoint crews → ((j : ℕ) → getD crews j 0 < 2 ^ 64) → length (crewsText numbers crews) ≤ 704
   crews-length crews d h =
-      joined-length betweenCrews 704 (map (setText staff) (filled crews)) (omega (arith, crews-total crews h, disjoint-few 64 crews d h)) (omega arith)
+      joined-length betweenCrews 704 (map (setText numbers) (filled crews)) (omega (arith, crews-total crews h, disjoint-few 64 crews d h)) (omega arith)
 
 -- ---- a line
 
@@ -121,10 +132,10 @@ words Crews = omega arith
 words None = omega arith
 words (Refused refusal) = omega arith
 
-line-length : (staff : List ℕ) (index : ℕ) (reply : Reply) → index < 100 → reply .units < 10 ^ 7
-    → length (setsText staff reply (reply .verdict)) ≤ 704 → length (lineOf staff index reply) ≤ 726
+line-length : (numbers : List ℕ) (index : ℕ) (reply : Reply) → index < 100 → reply .units < 10 ^ 7
+    → length (setsText numbers reply (reply .verdict)) ≤ 704 → length (lineOf numbers index reply) ≤ 726
 unfolding lineOf joined marked
-line-length staff index reply i u s =
+line-length numbers index reply i u s =
     simp length-append
     (omega (arith, decimal-length 1 index i, words (reply .verdict), decimal-length 6 (reply .units) u))
 
@@ -154,8 +165,8 @@ module _ (table : Table) (P d t A : ℕ) (rows : table .rows ≤ 64) (list : Cre
       go (yes a) = omega (arith, lt-of-lt-of-le (list .rows j a) (pow-mono rows), getD-take d l j 0 a)
       go (no a) = omega (arith, crews-past table P d t A j (omega arith))
 
-module _ (staff : List ℕ) (fits : (row : ℕ) → getD staff row 0 < 2 ^ 32) (index : ℕ) (early : index < 100) where
-  reply-line : (table : Table) (P s d t : ℕ) → P < 2 ^ 32 → length (lineOf staff index (policyReplyOf way table P s d t allowance)) ≤ 726
+module _ (numbers : List ℕ) (fits : (row : ℕ) → getD numbers row 0 < 2 ^ 32) (index : ℕ) (early : index < 100) where
+  reply-line : (table : Table) (P s d t : ℕ) → P < 2 ^ 32 → length (lineOf numbers index (policyReplyOf way table P s d t allowance)) ≤ 726
   unfolding setsText
   reply-line table P s d t wide = go (policy-case (needPolicy way table P s d t) table P s d t wide allowance)
     where
@@ -165,47 +176,73 @@ module _ (staff : List ℕ) (fits : (row : ℕ) → getD staff row 0 < 2 ^ 32) (
       may : PolicyReply way table P s d t allowance r
       may = policy-allowed way table P s d t wide allowance
 
-      by : {q : Reply} → r ≡ q → q .units ≤ allowance → length (setsText staff q (q .verdict)) ≤ 704 → length (lineOf staff index r) ≤ 726
-      by {q} e u l = subst (λ (x : Reply). length (lineOf staff index x) ≤ 726) (sym e) (line-length staff index q early (omega arith) l)
+      by : {q : Reply} → r ≡ q → q .units ≤ allowance → length (setsText numbers q (q .verdict)) ≤ 704 → length (lineOf numbers index r) ≤ 726
+      by {q} e u l = subst (λ (x : Reply). length (lineOf numbers index x) ≤ 726) (sym e) (line-length numbers index q early (omega arith) l)
 
-      go : Case (needPolicy way table P s d t) table P s d t allowance → length (lineOf staff index r) ≤ 726
+      go : Case (needPolicy way table P s d t) table P s d t allowance → length (lineOf numbers index r) ≤ 726
       go (is-refused refusal e) = by (may .refused refusal e) (omega arith) (omega arith)
       go (is-undecided e l) = by (may .undecided e l) (omega arith) (omega arith)
       go (is-yes e l h) =
           let fair = admitted-fair table P s d t wide e in
           let list = holds-list table P s d t fair h in
           by (may .yes e l h) l
-          (crews-length staff fits (firstList table P d t 0) (crews-disjoint table P d t 0 (fair .rows) list) (crews-wide table P d t 0 (fair .rows) list))
+          (crews-length numbers fits (firstList table P d t 0) (crews-disjoint table P d t 0 (fair .rows) list) (crews-wide table P d t 0 (fair .rows) list))
       go (is-no e l A f) =
           by (may .no e l A f) l
-          (set-length staff fits A (lt-of-lt-of-le (f .rows) (pow-mono (admitted-fair table P s d t wide e .rows))))
+          (set-length numbers fits A (lt-of-lt-of-le (f .rows) (pow-mono (admitted-fair table P s d t wide e .rows))))
+
+  -- and over accounts
+  answer-line : (a : Accounts) (P s d t : ℕ) → P < 2 ^ 32 → length (lineOf numbers index (policyAnswerOf way a P s d t allowance)) ≤ 726
+  unfolding setsText
+  answer-line a P s d t wide = go (accountsRuling a)
+    where
+      go : (first : Ruling) → length (lineOf numbers index (behind first (policyReplyOf way (merged a) P s d t allowance))) ≤ 726
+      go ruling.Admitted = reply-line (merged a) P s d t wide
+      go (ruling.Refused refusal) = line-length numbers index (replyWith noCrews 0 0 0 (Refused refusal)) early (omega arith) (omega arith)
 
 -- ---- the lines of a book
 
+-- a person's number is that of one of his rows, or 0
+number-fits-32 : (a : Accounts) → ((row : ℕ) → getD (a .persons) row 0 < 2 ^ 32) → (i : ℕ) → number a i < 2 ^ 32
+unfolding Persons·numberOf
+number-fits-32 a h i = go (ltb i (persons a)) (h _)
+  where
+    go : (there : Bool) {x : ℕ} → x < 2 ^ 32 → where? there x < 2 ^ 32
+    go true h = h
+    go false h = omega arith
+
 module _ (book : List ℕ) (bytes : Bytes book) where
-  from-fits : (at : Place) → staffOr0 (rowFrom book at) < 2 ^ 32
+  person-fits : (at : Place) → rowOr0 (rowFrom book at) .person < 2 ^ 32
   unfolding fieldsAt
-  from-fits (place.At at) = number-fits 4 book at bytes
-  from-fits place.Nothing = omega arith
-
-  staff-fits : (row : ℕ) → getD (staffOf book) row 0 < 2 ^ 32
-  unfolding staffOf
-  staff-fits row = go (decLt row 64)
+  person-fits (place.At a) = go (hasPersons (formOf book))
     where
-      number : ℕ → ℕ
-      number u = staffOr0 (rowByNumber book u)
+      go : (persons : Bool) → entryAt (rows persons) book a .person < 2 ^ 32
+      go false = number-fits 4 book a bytes
+      go true = number-fits 4 book (a + 4) bytes
+  person-fits place.Nothing = omega arith
 
-      go : Dec (row < 64) → getD (tabulate 64 number) row 0 < 2 ^ 32
-      go (yes l) =
-          omega (arith, at-tabulate 64 number row l, from-fits (placeOf (width rows) book (startsIn book .rows) row))
-      go (no n) = omega (arith, at-past 64 number row (omega arith))
+  persons-fit : (row : ℕ) → getD (accountsIn book .persons) row 0 < 2 ^ 32
+  unfolding accountsIn
+  persons-fit row = go (decLt row 64)
+    where
+      person : ℕ → ℕ
+      person u = rowOr0 (rowByNumber book u) .person
+
+      go : Dec (row < 64) → getD (tabulate 64 person) row 0 < 2 ^ 32
+      go (yes l) = omega (arith, at-tabulate 64 person row l, person-fits (rowPlace book (startsIn book) row))
+      go (no n) = omega (arith, at-past 64 person row (omega arith))
+
+  -- a number that is printed is the person number of some row
+  numbers-fit : (i : ℕ) → getD (numbersIn book) i 0 < 2 ^ 32
+  unfolding numbersIn
+  numbers-fit i = omega (arith, at-numbers (accountsIn book) i, number-fits-32 (accountsIn book) persons-fit i)
 
   line-fits : (index : ℕ) → index < 100 → length (lineBy book index (policyAt book index)) ≤ 726
   unfolding policyAt lineBy replyTo fieldsAt
   line-fits index early = at (placeOf (width policies) book (startsIn book .policies) index)
     where
       made : (p : Policy) → p .task < 2 ^ 32 → (r : Ruling) → length (lineBy book index (listedBy (madeBy r p))) ≤ 726
-      made p wide ruling.Admitted = reply-line (staffOf book) staff-fits index early (tableOf book) (p .task) (p .away) (p .crews) (p .size) wide
+      made p wide ruling.Admitted = answer-line (numbersIn book) numbers-fit index early (accountsIn book) (p .task) (p .away) (p .crews) (p .size) wide
       made p wide (ruling.Refused refusal) = omega arith
 
       at : (place : Place) → length (lineBy book index (policyFrom book place)) ≤ 726
@@ -245,17 +282,23 @@ module _ (book : List ℕ) (bytes : Bytes book) where
   section-early kind listed at h =
       (omega arith, in-turn-early (entryLook kind book listed) (width kind) (countAt book at) Nothing (at + 1) (omega arith))
 
+  rows-near : (form : Form) (c : ℕ) → c < 256 → width (rowsOf form) * c ≤ 3060
+  rows-near Old c h = omega arith
+  rows-near Persons c h = omega arith
+
   looks-early : Early (looks book)
   unfolding Each past
   looks-early =
-      let a = rowsAt book in
-      let b = policiesAt book in
-      let one : a ≤ 511 = omega (arith, bytes 0) in
-      let two : b ≤ 2552 = omega (arith, bytes a) in
+      let form = formOf book in
+      let n = listedIn form book in
+      let a = rowsAt form book in
+      let b = policiesAt form book in
+      let one : a ≤ 512 = omega (arith, bytes (front form), near-front form) in
+      let two : b ≤ 3573 = omega (arith, rows-near form (countAt book a) (bytes a)) in
       let three : past policies book b < 10000 = omega (arith, bytes b) in
-      early-append (sectionLooks codes book 0 0) (looksFromRows book a) (section-early codes 0 0 (omega arith))
-      (early-append (sectionLooks rows book (listedIn book) a) (looksFromPolicies book b) (section-early rows (listedIn book) a (omega arith))
-      (early-append (sectionLooks policies book (listedIn book) b) (endLook book (past policies book b) ∷ []) (section-early policies (listedIn book) b three)
+      early-append (sectionLooks codes book 0 (front form)) (looksFromRows form book a) (section-early codes 0 (front form) (omega arith))
+      (early-append (sectionLooks (rowsOf form) book n a) (looksFromPolicies form book b) (section-early (rowsOf form) n a (omega arith))
+      (early-append (sectionLooks policies book n b) (endLook book (past policies book b) ∷ []) (section-early policies n b three)
       (three, tt)))
 
   early-in : (l m : List Found) (x : Found) → Early (l ++ (x ∷ m)) → x .place < 10000
@@ -297,7 +340,7 @@ sheet-fits book bytes = ⊎-elim good refused (reply book)
   where
     good : books.Good book → length (sheetOf book) ≤ longest
     good g =
-        let l = good-layout book (startsOf book) bytes (g .reply) in
+        let l = good-layout book (startsOf (formOf book) book) bytes (g .reply) in
         let e : policyCount book ≡ length (contentsOf book .policies) = layout-parts (contentsOf book) book l .policies in
         let many : policyCount book ≤ 32 = omega (arith, l .admitted .policies) in
         omega (arith, lines-fit book bytes (policyCount book) 0 (omega arith), ap (λ (r : Reading). length (sheetBy book r)) (g .reply))

@@ -9,23 +9,24 @@ use lib.ListN.{length, take}
 use lib.Seq.{take-all, take-take}
 use borrow.Author.Tests.{ltb-false}
 use Rattle.roster.specs.Laws.Rulings.{inside}
-use Rattle.book.specs.Reading.{countAt, past, readOf}
+use Rattle.book.specs.Reading.{countAt, past, formOf, front, readOf}
 use Rattle.book.specs.Laws.Books.{rowsAt, policiesAt, BookSound, Good, Refused, reply}
-use Rattle.book.specs.Laws.Prefix.{prefix-reply}
+use Rattle.book.specs.Laws.Prefix.{near-front, near-row, prefix-reply}
+use Rattle.book.specs.declared.Form.{Form}
 use Rattle.lines.specs.Sheet.{sheetBy, sheetOf, enough}
 
--- a book without fault is no longer than its counts allow
-sound-short : (book : List ℕ) → BookSound book → length book ≤ 803
+-- a book without fault is no longer than its counts allow, in either form
+sound-short : (form : Form) (book : List ℕ) → BookSound form book → length book ≤ 1060
 unfolding past
-sound-short book s =
-    let listed : countAt book 0 ≤ 32 = inside 32 (countAt book 0) (s .first .inRange) .1 in
-    let many : countAt book (rowsAt book) ≤ 64 = ltb-false 64 (countAt book (rowsAt book)) (s .second .inRange) in
-    let asked : countAt book (policiesAt book) ≤ 32 = ltb-false 32 (countAt book (policiesAt book)) (s .third .inRange) in
-    omega (arith, s .ends)
+sound-short form book s =
+    let listed : countAt book (front form) ≤ 32 = inside 32 (countAt book (front form)) (s .first .inRange) .1 in
+    let many : countAt book (rowsAt form book) ≤ 64 = ltb-false 64 (countAt book (rowsAt form book)) (s .second .inRange) in
+    let asked : countAt book (policiesAt form book) ≤ 32 = ltb-false 32 (countAt book (policiesAt form book)) (s .third .inRange) in
+    omega (arith, s .ends, near-front form, near-row form (countAt book (rowsAt form book)) many)
 
--- the reply to a front of at least 804 bytes
-front-reply : (n : ℕ) (book : List ℕ) → 804 ≤ n → readOf (take n book) ≡ readOf book
-front-reply n book h = prefix-reply (take n book) ∙ ap readOf (take-take 804 n book h) ∙ sym (prefix-reply book)
+-- the reply to a front of at least 1061 bytes
+front-reply : (n : ℕ) (book : List ℕ) → 1061 ≤ n → readOf (take n book) ≡ readOf book
+front-reply n book h = prefix-reply (take n book) ∙ ap readOf (take-take 1061 n book h) ∙ sym (prefix-reply book)
 
 -- the sheet of any string is that of its front
 pub sheet-front : (book : List ℕ) → sheetOf (take enough book) ≡ sheetOf book
@@ -33,7 +34,7 @@ unfolding sheetOf sheetBy
 sheet-front book = ⊎-elim good refused (reply book)
   where
     good : Good book → sheetOf (take enough book) ≡ sheetOf book
-    good g = ap sheetOf (take-all enough book (omega (arith, sound-short book (g .sound))))
+    good g = ap sheetOf (take-all enough book (omega (arith, sound-short (formOf book) book (g .sound))))
 
     refused : Refused book → sheetOf (take enough book) ≡ sheetOf book
     refused r =

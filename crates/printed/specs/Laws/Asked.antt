@@ -13,16 +13,19 @@ use Rattle.roster.specs.declared.Policy.{Policy}
 use Rattle.roster.specs.declared.Reply.{Reply}
 use Rattle.roster.specs.declared.Ruling.the-variants.{Admitted}
 use Rattle.absences.specs.Tried.{skipping}
+use Rattle.accounts.specs.Persons.{persons}
+use Rattle.accounts.specs.Laws.Merged.{persons-few}
 use Rattle.absences.specs.Asked.{Admits, Tells}
 use Rattle.absences.specs.Laws.Demands.{policy-allowed, policy-exactly}
 use Rattle.book.specs.Layout.{Contents, PolicyFits}
-use Rattle.book.specs.Promises.{tableFor}
-use Rattle.book.specs.Laws.Parts.{each-nth, layout-parts}
+use Rattle.book.specs.Promises.{accountsFor}
+use Rattle.book.specs.Laws.Parts.{each-nth}
 use Rattle.text.specs.Text.{newline}
 use Rattle.text.specs.Cut.{linesOf}
 use Rattle.lines.specs.Lines.{lineOf}
-use Rattle.lines.specs.Sheet.{allowance, staffOf, replyTo, sheetOf}
-use Rattle.printed.specs.Words.{PolicyOf, MayReply}
+use Rattle.lines.specs.Sheet.{allowance, numbersIn, replyTo, sheetOf}
+use Rattle.lines.specs.Laws.Laid.{reply-laid}
+use Rattle.printed.specs.Words.{PolicyOf, tableFor, MayReply}
 use Rattle.printed.specs.Laws.Lines.{line-text}
 use Rattle.printed.specs.Laws.Sheets.{lineAt, sheet-line}
 
@@ -39,12 +42,11 @@ module _ (book : List ℕ) (i : ℕ) (v : Contents) (p : Policy) (o : PolicyOf b
   task-wide = lt-of-lt-of-le (fits .task) (pow-mono (o .layout .admitted .permissions))
 
   pub policy-admitted : Admits (tableFor v) (p .task) (p .away) (p .crews) (p .size)
-  policy-admitted = admitted-with (length (v .rows)) (p .task) (p .away) (p .crews) (p .size) (o .layout .admitted .rows) (fits .sound)
+  policy-admitted = admitted-with (persons (accountsFor v)) (p .task) (p .away) (p .crews) (p .size) (persons-few (accountsFor v)) (fits .sound)
 
   pub policy-reply : MayReply v p (replyTo book p)
-  unfolding replyTo
   policy-reply =
-      rw (layout-parts v book (o .layout) .table)
+      rw (reply-laid v book (o .layout) p)
       (policy-allowed skipping (tableFor v) (p .task) (p .away) (p .crews) (p .size) task-wide allowance)
 
   pub policy-tells : Tells skipping (tableFor v) (p .task) (p .away) (p .crews) (p .size) allowance (replyTo book p)
@@ -57,7 +59,7 @@ pub record PolicyLine (book : List ℕ) (i : ℕ) (v : Contents) (p : Policy) : 
   pub allowed : MayReply v p reply
   pub text : List ℕ
   pub line : getElem? (linesOf (sheetOf book)) i ≡ some text
-  pub written : text ++ (newline ∷ []) ≡ lineOf (staffOf book) i reply
+  pub written : text ++ (newline ∷ []) ≡ lineOf (numbersIn book) i reply
 
 -- it is the line of a reply that may be given to policy i, whose question is admitted
 pub policy-line : (book : List ℕ) (i : ℕ) (v : Contents) (p : Policy) → PolicyOf book i v p → PolicyLine book i v p
@@ -67,5 +69,5 @@ policy-line book i v p o = record {
   allowed = policy-reply book i v p o;
   text = lineAt book i p;
   line = sheet-line book i v p o;
-  written = sym (line-text (staffOf book) i (replyTo book p));
+  written = sym (line-text (numbersIn book) i (replyTo book p));
 }

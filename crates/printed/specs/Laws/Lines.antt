@@ -23,14 +23,14 @@ never e = absurd (omega arith)
 
 -- a line without its newline
 abbrev pub lineText : List ℕ → ℕ → Reply → List ℕ
-lineText staff i r = decimal i ␣ verdictWord (r .verdict) ␣ decimal (r .units) ␣ setsText staff r (r .verdict)
+lineText numbers i r = decimal i ␣ verdictWord (r .verdict) ␣ decimal (r .units) ␣ setsText numbers r (r .verdict)
 
 abbrev pub badText : ℕ → ℕ → List ℕ
 badText number place = quoted "bad" ␣ decimal number ␣ decimal place
 
-pub line-text : (staff : List ℕ) (i : ℕ) (r : Reply) → lineOf staff i r ≡ lineText staff i r ++ (newline ∷ [])
+pub line-text : (numbers : List ℕ) (i : ℕ) (r : Reply) → lineOf numbers i r ≡ lineText numbers i r ++ (newline ∷ [])
 unfolding lineOf joined marked
-line-text staff i r = simp append-nil
+line-text numbers i r = simp append-nil
 
 pub bad-text : (number place : ℕ) → badLine number place ≡ badText number place ++ (newline ∷ [])
 unfolding badLine joined marked
@@ -38,14 +38,14 @@ bad-text number place = simp append-nil
 
 -- ---- what is in no set and in no word
 
-set-lacks : (mark : ℕ) → NoDigit mark → mark ≢ comma → mark ≢ dash → (staff : List ℕ) (A : ℕ) → Lacks mark (setText staff A)
+set-lacks : (mark : ℕ) → NoDigit mark → mark ≢ comma → mark ≢ dash → (numbers : List ℕ) (A : ℕ) → Lacks mark (setText numbers A)
 unfolding names
-set-lacks mark n c d staff A =
-    joined-lacks mark comma (names staff A) c d
-    (every-map (λ row. decimal (getD staff row 0)) (Lacks mark) (members 0 rowLimit A) (λ row m. decimal-lacks mark (getD staff row 0) n))
+set-lacks mark n c d numbers A =
+    joined-lacks mark comma (names numbers A) c d
+    (every-map (λ row. decimal (getD numbers row 0)) (Lacks mark) (members 0 rowLimit A) (λ row m. decimal-lacks mark (getD numbers row 0) n))
 
 -- no set has a slash, so that crews can be told apart
-pub set-no-slash : (staff : List ℕ) (A : ℕ) → Lacks slash (setText staff A)
+pub set-no-slash : (numbers : List ℕ) (A : ℕ) → Lacks slash (setText numbers A)
 set-no-slash = set-lacks slash (λ d l e. omega arith) (λ e. omega arith) (λ e. omega arith)
 
 -- the space, and what comes before it among the bytes, as the newline does
@@ -66,19 +66,19 @@ module _ (mark : ℕ) (low : mark ≤ space) where
   word-blank None = lacks-over space mark (verdictWord None) low refl
   word-blank (Refused refusal) = lacks-over space mark (verdictWord (Refused refusal)) low refl
 
-  set-blank : (staff : List ℕ) (A : ℕ) → Lacks mark (setText staff A)
+  set-blank : (numbers : List ℕ) (A : ℕ) → Lacks mark (setText numbers A)
   set-blank = set-lacks mark (λ d l e. omega arith) (λ e. omega arith) (λ e. omega arith)
 
-  sets-blank : (staff : List ℕ) (r : Reply) (v : Verdict) → Lacks mark (setsText staff r v)
+  sets-blank : (numbers : List ℕ) (r : Reply) (v : Verdict) → Lacks mark (setsText numbers r v)
   unfolding setsText
-  sets-blank staff r Yes =
-      joined-lacks mark slash (map (setText staff) (filled (r .crews))) (λ e. omega arith) (λ e. omega arith)
-      (every-map (setText staff) (Lacks mark) (filled (r .crews)) (λ crew m. set-blank staff crew))
-  sets-blank staff r No = set-blank staff (r .blocker)
-  sets-blank staff r Undecided = dash-blank
-  sets-blank staff r Crews = dash-blank
-  sets-blank staff r None = dash-blank
-  sets-blank staff r (Refused refusal) = dash-blank
+  sets-blank numbers r Yes =
+      joined-lacks mark slash (map (setText numbers) (filled (r .crews))) (λ e. omega arith) (λ e. omega arith)
+      (every-map (setText numbers) (Lacks mark) (filled (r .crews)) (λ crew m. set-blank numbers crew))
+  sets-blank numbers r No = set-blank numbers (r .blocker)
+  sets-blank numbers r Undecided = dash-blank
+  sets-blank numbers r Crews = dash-blank
+  sets-blank numbers r None = dash-blank
+  sets-blank numbers r (Refused refusal) = dash-blank
 
   bad-blank : Lacks mark (quoted "bad")
   unfolding over
@@ -92,11 +92,11 @@ low = omega arith
 field : {a b : List ℕ} → Lacks newline a → Lacks newline b → Lacks newline (a ␣ b)
 field = lacks-word newline (λ e. omega arith)
 
-pub line-one : (staff : List ℕ) (i : ℕ) (r : Reply) → Lacks newline (lineText staff i r)
-line-one staff i r =
+pub line-one : (numbers : List ℕ) (i : ℕ) (r : Reply) → Lacks newline (lineText numbers i r)
+line-one numbers i r =
     field (number-blank newline low i)
     (field (word-blank newline low (r .verdict))
-    (field (number-blank newline low (r .units)) (sets-blank newline low staff r (r .verdict))))
+    (field (number-blank newline low (r .units)) (sets-blank newline low numbers r (r .verdict))))
 
 pub bad-one : (number place : ℕ) → Lacks newline (badText number place)
 bad-one number place = field (bad-blank newline low) (field (number-blank newline low number) (number-blank newline low place))

@@ -5,7 +5,7 @@ use mathlib.Core.Logic.{_↔_, ⊎-elim}
 use mathlib.Core.List.{List, map, List·Memᴰ, List·Memᴰ·head, List·Memᴰ·eq-of-singleton}
 use Prim.Native.Nat.{ℕ, _≤_, _<_}
 use native.Mathlib.Omega.{arith}
-use lib.ListN.{length, getD, getElem?, take}
+use lib.ListN.{getD, getElem?, take}
 use Rattle.roster.specs.Meaning.{CrewList, Blocks, Absence, FirstBlocker}
 use Rattle.roster.specs.declared.Policy.{Policy}
 use Rattle.roster.specs.declared.Reply.{Reply}
@@ -18,14 +18,14 @@ use Rattle.absences.specs.Laws.Decided.{admitted-fair}
 use Rattle.absences.specs.Laws.Demands.{policy-yes, policy-no}
 use Rattle.book.specs.Layout.{Contents, LayoutOf}
 use Rattle.book.specs.Faults.{faultNumber}
-use Rattle.book.specs.Promises.{Bytes, FirstFault, tableFor}
+use Rattle.book.specs.Promises.{Bytes, FirstFault}
 use Rattle.book.specs.declared.Fault.{Fault}
 use Rattle.text.specs.Text.{quoted, slash, decimal, joined}
 use Rattle.text.specs.Cut.{_␣_, linesOf, HasLine}
 use Rattle.text.specs.Laws.Every.{nth-in, every-at, map-ext}
 use Rattle.lines.specs.Lines.{verdictWord, setText, filled, setsText}
-use Rattle.lines.specs.Sheet.{allowance, staffOf, replyTo, sheetOf}
-use Rattle.printed.specs.Words.{PolicyOf, needOf, firstCrews, Prints, namesOf}
+use Rattle.lines.specs.Sheet.{allowance, numbersIn, replyTo, sheetOf}
+use Rattle.printed.specs.Words.{PolicyOf, tableFor, needOf, firstCrews, Prints, namesOf}
 use Rattle.printed.specs.Laws.Lines.{never, badText, not-bad, bad-parted, number-parted, Worded, says-yes, says-no, says-undecided, word-parted}
 use Rattle.printed.specs.Laws.Asked.{task-wide, policy-admitted, policy-reply, policy-tells}
 use Rattle.printed.specs.Laws.Names.{set-names}
@@ -35,7 +35,7 @@ use Rattle.printed.specs.Laws.Sheets.{lineAt, sheet-line, sheet-found, r
 
 -- what stands behind the index: a word, the units and the sets
 abbrev behindWord : List ℕ → Policy → Verdict → List ℕ
-behindWord book p w = decimal (replyTo book p .units) ␣ setsText (staffOf book) (replyTo book p) w
+behindWord book p w = decimal (replyTo book p .units) ␣ setsText (numbersIn book) (replyTo book p) w
 
 abbrev behindIndex : List ℕ → Policy → List ℕ
 behindIndex book p = verdictWord (replyTo book p .verdict) ␣ behindWord book p (replyTo book p .verdict)
@@ -87,10 +87,10 @@ module _ (book : List ℕ) (i : ℕ) (v : Contents) (p : Policy) (o : PolicyOf b
   abbrev fair : Fair (tableFor v) (p .task) (p .crews)
   fair = admitted-fair (tableFor v) (p .task) (p .away) (p .crews) (p .size) (task-wide book i v p o) (policy-admitted book i v p o)
 
-  abbrev shown : Shown (length (v .rows)) (replyTo book p)
+  abbrev shown : Shown (tableFor v .rows) (replyTo book p)
   shown =
       allowed-shown skipping (tableFor v) (p .task) (p .away) (p .crews) (p .size) (task-wide book i v p o) allowance
-      (policy-admitted book i v p o) (replyTo book p) (policy-reply book i v p o) (length (v .rows)) (omega arith)
+      (policy-admitted book i v p o) (replyTo book p) (policy-reply book i v p o) (tableFor v .rows) (omega arith)
 
   -- ---- the word
 
@@ -169,9 +169,9 @@ module _ (book : List ℕ) (i : ℕ) (v : Contents) (p : Policy) (o : PolicyOf b
   yes-crews rest m =
       let h = word-of Yes says-yes rest m in
       let list = first-list (h .0) in
-      let named = every-at (λ crew. setText (staffOf book) crew ≡ namesOf v crew) (firstCrews v p)
-      (λ j l. set-names v book (o .layout) (getD (firstCrews v p) j 0) (list .rows j (omega (arith, list .many)))) in
-      let crews = ap (map (setText (staffOf book))) (yes-filled (h .0)) ∙ map-ext (setText (staffOf book)) (namesOf v) (firstCrews v p) named in
+      let named = every-at (λ crew. setText (numbersIn book) crew ≡ namesOf v crew) (firstCrews v p)
+      (λ j l. set-names v book (o .layout) (getD (firstCrews v p) j 0)) in
+      let crews = ap (map (setText (numbersIn book))) (yes-filled (h .0)) ∙ map-ext (setText (numbersIn book)) (namesOf v) (firstCrews v p) named in
       (h .1 ∙ ap₂ (λ (n : ℕ) (l : List (List ℕ)). decimal n ␣ joined slash l) (tells .units (λ c. never (cc)) admits) crews, list)
 
   -- with no the names are those of the first blocker
@@ -182,7 +182,7 @@ module _ (book : List ℕ) (i : ℕ) (v : Contents) (p : Policy) (o : PolicyOf b
       let h = word-of No says-no rest m in
       let first = tells .blocker (h .0) in
       let units = tells .units (λ c. never (cc)) admits in
-      (given .blocker, first, h .1 ∙ ap₂ (λ (n : ℕ) (names : List ℕ). decimal n ␣ names) units (set-names v book (o .layout) (given .blocker) (first .rows)))
+      (given .blocker, first, h .1 ∙ ap₂ (λ (n : ℕ) (names : List ℕ). decimal n ␣ names) units (set-names v book (o .layout) (given .blocker)))
 
   -- with undecided the units are all that were allowed, and there is no set
   pub undecided-dash : (rest : List ℕ) → HasLine (sheetOf book) (decimal i ␣ quoted "undecided" ␣ rest) → rest ≡ decimal allowance ␣ quoted "-"

@@ -28,37 +28,37 @@ members-same w A B a b e =
     let from = sub-of-has B A (λ i h. has-of-mem w A i (subst (List·Memᴰ i) (sym e) (mem-of-has w B i (bit-below B w i b h) h)) .1) in
     ext-all A B (λ i. omega (arith, to i, from i))
 
-module _ (n : ℕ) (few : n ≤ rowLimit) (staff : List ℕ) (different : Different n staff) where
+module _ (n : ℕ) (few : n ≤ rowLimit) (numbers : List ℕ) (different : Different n numbers) where
   wide : (A : ℕ) → A < 2 ^ n → A < 2 ^ rowLimit
   wide A h = lt-of-lt-of-le h (pow-mono few)
 
   -- the names tell which rows they are of
-  names-same : (A B : ℕ) → A < 2 ^ n → B < 2 ^ n → names staff A ≡ names staff B → A ≡ B
+  names-same : (A B : ℕ) → A < 2 ^ n → B < 2 ^ n → names numbers A ≡ names numbers B → A ≡ B
   unfolding names
   names-same A B a b e =
       members-same rowLimit A B (wide A a) (wide B b)
-      (map-same (λ row. decimal (getD staff row 0)) (members 0 rowLimit A) (members 0 rowLimit B)
-      (λ u m w k same. different u w (row A u a m) (row B w b k) (decimal-same (getD staff u 0) (getD staff w 0) same)) e)
+      (map-same (λ row. decimal (getD numbers row 0)) (members 0 rowLimit A) (members 0 rowLimit B)
+      (λ u m w k same. different u w (row A u a m) (row B w b k) (decimal-same (getD numbers u 0) (getD numbers w 0) same)) e)
     where
       row : (C u : ℕ) → C < 2 ^ n → List·Memᴰ u (members 0 rowLimit C) → u < n
       row C u c m = bit-below C n u c (has-of-mem rowLimit C u m .1)
 
-  pub set-same : (A B : ℕ) → A < 2 ^ n → B < 2 ^ n → setText staff A ≡ setText staff B → A ≡ B
+  pub set-same : (A B : ℕ) → A < 2 ^ n → B < 2 ^ n → setText numbers A ≡ setText numbers B → A ≡ B
   unfolding names
   set-same A B a b e =
       names-same A B a b
-      (joined-same comma (names staff A) (names staff B) (λ q. omega arith) (lacks A) (lacks B) (some A) (some B) e)
+      (joined-same comma (names numbers A) (names numbers B) (λ q. omega arith) (lacks A) (lacks B) (some A) (some B) e)
     where
-      lacks : (C : ℕ) → Every (Lacks comma) (names staff C)
-      lacks C = every-map (λ row. decimal (getD staff row 0)) (Lacks comma) (members 0 rowLimit C) (λ row m. decimal-lacks comma (getD staff row 0) (λ d l q. omega arith))
+      lacks : (C : ℕ) → Every (Lacks comma) (names numbers C)
+      lacks C = every-map (λ row. decimal (getD numbers row 0)) (Lacks comma) (members 0 rowLimit C) (λ row m. decimal-lacks comma (getD numbers row 0) (λ d l q. omega arith))
 
-      some : (C : ℕ) → Every (λ x. x ≢ dash ∷ []) (names staff C)
-      some C = every-map (λ row. decimal (getD staff row 0)) (λ x. x ≢ dash ∷ []) (members 0 rowLimit C) (λ row m. decimal-no-dash (getD staff row 0))
+      some : (C : ℕ) → Every (λ x. x ≢ dash ∷ []) (names numbers C)
+      some C = every-map (λ row. decimal (getD numbers row 0)) (λ x. x ≢ dash ∷ []) (members 0 rowLimit C) (λ row m. decimal-no-dash (getD numbers row 0))
 
   -- only nobody is written `-`
-  set-some : (A : ℕ) → A < 2 ^ n → A ≢ 0 → setText staff A ≢ dash ∷ []
+  set-some : (A : ℕ) → A < 2 ^ n → A ≢ 0 → setText numbers A ≢ dash ∷ []
   unfolding names joined
-  set-some A a z e = z (set-same A 0 a (pow-pos n) (e ∙ sym (ap (λ (l : List ℕ). joined comma (map (λ row. decimal (getD staff row 0)) l)) (members-empty rowLimit))))
+  set-some A a z e = z (set-same A 0 a (pow-pos n) (e ∙ sym (ap (λ (l : List ℕ). joined comma (map (λ row. decimal (getD numbers row 0)) l)) (members-empty rowLimit))))
 
   -- a crew that is written has somebody in it
   crews-some : (l : List ℕ) → ((j : ℕ) → getD l j 0 < 2 ^ n) → Every (λ crew. (crew < 2 ^ n) × (crew ≢ 0)) (filled l)
@@ -68,16 +68,16 @@ module _ (n : ℕ) (few : n ≤ rowLimit) (staff : List ℕ) (different : Differ
   crews-some (suc crew ∷ l) h = every-cons (h 0, λ e. omega arith) (crews-some l (λ j. h (suc j)))
 
   pub crews-same : (l k : List ℕ) → ((j : ℕ) → getD l j 0 < 2 ^ n) → ((j : ℕ) → getD k j 0 < 2 ^ n)
-      → crewsText staff l ≡ crewsText staff k → filled l ≡ filled k
+      → crewsText numbers l ≡ crewsText numbers k → filled l ≡ filled k
   crews-same l k f g e =
       let p = crews-some l f in
       let q = crews-some k g in
-      map-same (setText staff) (filled l) (filled k) (λ A m B o. set-same A B (p A m .0) (q B o .0))
-      (joined-same slash (map (setText staff) (filled l)) (map (setText staff) (filled k)) (λ z. omega arith)
-      (every-map (setText staff) (Lacks slash) (filled l) (λ A m. set-no-slash staff A))
-      (every-map (setText staff) (Lacks slash) (filled k) (λ A m. set-no-slash staff A))
-      (every-map (setText staff) (λ x. x ≢ dash ∷ []) (filled l) (λ A m. set-some A (p A m .0) (p A m .1)))
-      (every-map (setText staff) (λ x. x ≢ dash ∷ []) (filled k) (λ A m. set-some A (q A m .0) (q A m .1))) e)
+      map-same (setText numbers) (filled l) (filled k) (λ A m B o. set-same A B (p A m .0) (q B o .0))
+      (joined-same slash (map (setText numbers) (filled l)) (map (setText numbers) (filled k)) (λ z. omega arith)
+      (every-map (setText numbers) (Lacks slash) (filled l) (λ A m. set-no-slash numbers A))
+      (every-map (setText numbers) (Lacks slash) (filled k) (λ A m. set-no-slash numbers A))
+      (every-map (setText numbers) (λ x. x ≢ dash ∷ []) (filled l) (λ A m. set-some A (p A m .0) (p A m .1)))
+      (every-map (setText numbers) (λ x. x ≢ dash ∷ []) (filled k) (λ A m. set-some A (q A m .0) (q A m .1))) e)
 
 -- ---- the crews before the first that is empty
 

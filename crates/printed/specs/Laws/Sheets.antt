@@ -9,7 +9,7 @@ use lib.ListN.{length, getElem?}
 use Rattle.roster.specs.declared.Policy.{Policy}
 use Rattle.book.specs.Layout.{Contents, LayoutOf}
 use Rattle.book.specs.Faults.{faultNumber}
-use Rattle.book.specs.Reading.{startsOf}
+use Rattle.book.specs.Reading.{formOf, startsOf}
 use Rattle.book.specs.Parts.{contentsOf, policyAt}
 use Rattle.book.specs.Promises.{Bytes, FirstFault, policyBy}
 use Rattle.book.specs.Laws.Books.{layout-good, first-fault-refused, reply, good-layout}
@@ -20,13 +20,13 @@ use Rattle.text.specs.Text.{newline}
 use Rattle.text.specs.Cut.{Every, Lacks, linesOf, ended, HasLine}
 use Rattle.text.specs.Laws.Every.{every-none, every-cons}
 use Rattle.text.specs.Laws.Marks.{lines-ended}
-use Rattle.lines.specs.Sheet.{staffOf, replyTo, lineBy, linesFrom, sheetBy, sheetOf}
+use Rattle.lines.specs.Sheet.{numbersIn, replyTo, lineBy, linesFrom, sheetBy, sheetOf}
 use Rattle.printed.specs.Words.{PolicyOf}
 use Rattle.printed.specs.Laws.Lines.{lineText, badText, line-text, bad-text, line-one, bad-one}
 
 -- the line of a policy of the book
 abbrev pub lineAt : List ℕ → ℕ → Policy → List ℕ
-lineAt book i p = lineText (staffOf book) i (replyTo book p)
+lineAt book i p = lineText (numbersIn book) i (replyTo book p)
 
 -- the lines of these policies, with the indices from i on
 unfoldable pub linesFor : List ℕ → ℕ → List Policy → List (List ℕ)
@@ -36,7 +36,7 @@ linesFor book i (p ∷ l) = lineAt book i p ∷ linesFor book (suc i) l
 lines-one : (book : List ℕ) (i : ℕ) (l : List Policy) → Every (Lacks newline) (linesFor book i l)
 unfolding linesFor
 lines-one book i [] = every-none (Lacks newline)
-lines-one book i (p ∷ l) = every-cons (line-one (staffOf book) i (replyTo book p)) (lines-one book (suc i) l)
+lines-one book i (p ∷ l) = every-cons (line-one (numbersIn book) i (replyTo book p)) (lines-one book (suc i) l)
 
 -- where the policies from index i on are these, the lines from there on are theirs
 lines-from : (book : List ℕ) (i : ℕ) (l : List Policy) → ((j : ℕ) → policyAt book (i + j) ≡ policyBy (getElem? l j))
@@ -46,7 +46,7 @@ lines-from book i [] h = refl
 lines-from book i (p ∷ l) h =
     let here : policyAt book i ≡ listed.Policy p = ap (policyAt book) (omega arith) ∙ h 0 in
     let rest = lines-from book (suc i) l (λ j. ap (policyAt book) (omega arith) ∙ h (suc j)) in
-    ap₂ (λ (one more : List ℕ). one ++ more) (ap (lineBy book i) here ∙ line-text (staffOf book) i (replyTo book p)) rest
+    ap₂ (λ (one more : List ℕ). one ++ more) (ap (lineBy book i) here ∙ line-text (numbersIn book) i (replyTo book p)) rest
     ∙ append-assoc (lineAt book i p) (newline ∷ []) (ended (linesFor book (suc i) l))
 
 -- ---- a good book: its lines are those of its policies
@@ -118,7 +118,7 @@ refused-lines book f at h =
 -- a string of bytes is the layout of some values, or it has a first fault
 pub good-or-bad : (book : List ℕ) → Bytes book → ((v : Contents) × LayoutOf v book) ⊎ ((f : Fault) × (at : ℕ) × FirstFault book f at)
 good-or-bad book bytes =
-    ⊎-elim (λ g. inl (contentsOf book, good-layout book (startsOf book) bytes (g .reply))) (λ r. inr (r .fault, r .place, r .first)) (reply book)
+    ⊎-elim (λ g. inl (contentsOf book, good-layout book (startsOf (formOf book) book) bytes (g .reply))) (λ r. inr (r .fault, r .place, r .first)) (reply book)
 
 -- the lines of a sheet, each ended by its newline, are the sheet
 pub sheet-ended : (book : List ℕ) → Bytes book → sheetOf book ≡ ended (linesOf (sheetOf book))

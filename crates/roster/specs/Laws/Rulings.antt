@@ -1,6 +1,6 @@
 -- What a ruling says: an admitted question has its numbers within the limits, and the two orders of refusal are one order. Assumes nothing.
-use mathlib.Core.Path.{_≡_, refl, sym, _∙_}
-use mathlib.Core.Logic.{_↔_}
+use mathlib.Core.Path.{_≡_, refl, sym, ap, _∙_}
+use mathlib.Core.Logic.{_↔_, _≢_}
 use mathlib.Core.Bool.{Bool, true, false, _||_}
 use Prim.Native.Nat.{ℕ, _+_, _/_, _^_, _≤_, _<_}
 use native.Mathlib.Nat.{lt-of-not-le, lt-of-le-of-lt, div-le-self}
@@ -8,7 +8,7 @@ use native.Mathlib.Decide.{decLe}
 use native.Mathlib.Omega.{arith}
 use lib.Count.{trailingZeros}
 use lib.Dec.{eqb, leb, ltb}
-use borrow.Author.Tests.{ltb-false, leb-false, eqb-false}
+use borrow.Author.Tests.{ltb-true, ltb-false, lt-ltb, le-ltb, leb-false, eqb-false}
 use Rattle.sets.specs.Sets.{Has, bit-high, bit-shr, shifted-out, trailing-least}
 use Rattle.roster.specs.declared.Refusal.{Refusal}
 use Rattle.roster.specs.declared.Refusal.the-variants.{Rows, Task, Away, Crews, Size, Absence}
@@ -93,6 +93,49 @@ pub named-within : (rows P d t A : ℕ) → namedRuling rows P d t A ≡ Admitte
 named-within rows P d t A e =
     let x = neither _ _ (sym (named-after-policy rows P d t A) ∙ e) in
     (policy-within rows P 0 d t (x .0), leb-false (2 ^ rows) A (no-fault _ _ _ (x .1) .0))
+
+-- ---- refusal 1: more rows than the limit, and it is the only one that looks at how many there are
+
+clash : _≡_ {A = ℕ} 0 1 → ⊥
+clash e = omega arith
+
+-- no later refusal is this one
+not-later : (b : Bool) (other : Refusal) (rest : Ruling) → other ≢ Rows → rest ≢ Refused Rows → refusedIf b other rest ≢ Refused Rows
+not-later true other rest n m e = n (cc)
+not-later false other rest n m e = m e
+
+later : (w x y z : Bool) → refusedIf w Task (refusedIf x Away (refusedIf y Crews (refusedIf z Size Admitted))) ≢ Refused Rows
+later w x y z =
+    not-later w Task (refusedIf x Away (refusedIf y Crews (refusedIf z Size Admitted))) (λ e. clash (cc))
+    (not-later x Away (refusedIf y Crews (refusedIf z Size Admitted)) (λ e. clash (cc))
+    (not-later y Crews (refusedIf z Size Admitted) (λ e. clash (cc))
+    (not-later z Size Admitted (λ e. clash (cc)) (λ e. clash (cc)))))
+
+pub policy-rows : (rows P s d t : ℕ) → (policyRuling rows P s d t ≡ Refused Rows) ↔ (rowLimit < rows)
+unfolding policyRuling
+policy-rows rows P s d t = (go (ltb rowLimit rows) refl, λ l. rw (lt-ltb rowLimit rows l))
+  where
+    go : (b : Bool) → ltb rowLimit rows ≡ b
+        → refusedIf b Rows (refusedIf (eqb P 0) Task (refusedIf (ltb awayLimit s) Away (refusedIf (outside crewLimit d) Crews (refusedIf (outside sizeLimit t) Size Admitted)))) ≡ Refused Rows
+        → rowLimit < rows
+    go true y e = ltb-true rowLimit rows y
+    go false y e = absurd (later (eqb P 0) (ltb awayLimit s) (outside crewLimit d) (outside sizeLimit t) e)
+
+pub named-rows : (rows P d t A : ℕ) → (namedRuling rows P d t A ≡ Refused Rows) ↔ (rowLimit < rows)
+named-rows rows P d t A = (
+  λ e. policy-rows rows P 0 d t .0 (go (policyRuling rows P 0 d t) (leb (2 ^ rows) A) (sym (named-after-policy rows P d t A) ∙ e)),
+  λ l.
+      named-after-policy rows P d t A
+      ∙ ap (λ (x : Ruling). orElse x (refusedIf (leb (2 ^ rows) A) Absence Admitted)) (policy-rows rows P 0 d t .1 l),
+)
+  where
+    go : (x : Ruling) (b : Bool) → orElse x (refusedIf b Absence Admitted) ≡ Refused Rows → x ≡ Refused Rows
+    go Admitted b e = absurd (not-later b Absence Admitted (λ q. clash (cc)) (λ q. clash (cc)) e)
+    go (Refused refusal) b e = e
+
+pub policy-few : (rows other P s d t : ℕ) → rows ≤ rowLimit → other ≤ rowLimit → policyRuling rows P s d t ≡ policyRuling other P s d t
+unfolding policyRuling
+policy-few rows other P s d t l k = rw (le-ltb rowLimit rows l, le-ltb rowLimit other k)
 
 -- a set is no set of rows exactly if it has a bit at or past the row count
 pub past-rows-iff : (rows A : ℕ) → A < 2 ^ 64 → (2 ^ rows ≤ A) ↔ ((i : ℕ) × (rows ≤ i) × Has A i)

@@ -3,7 +3,7 @@
 use borrow.Author.Needs.{needs}
 use mathlib.Core.Path.{_≡_, refl, sym, ap, _∙_}
 use mathlib.Core.Option.{some, none}
-use mathlib.Core.List.{List, _++_, append-assoc}
+use mathlib.Core.List.{List, _++_}
 use Prim.Native.Nat.{ℕ, _+_, _≤_, _<_}
 use native.Mathlib.Omega.{arith}
 use lib.ListN.{length, drop}
@@ -16,7 +16,6 @@ use Rattle.book.specs.declared.Section.the-variants.{Permissions, Rows, Policie
 use Rattle.values.specs.Values.{contentsFor}
 use Rattle.values.specs.Writing.{faultIn, Writes}
 use Rattle.values.specs.Inner.Looks.{Counted}
-use Rattle.values.specs.Inner.Puts.{sectionBytes}
 use Rattle.values.specs.declared.Unwritten.the-variants as unwritten
 use Rattle.values.specs.declared.Wrote.the-variants.{Written, Refused}
 use Rattle.values.proofs.Looks.{told-faulty, told-sound, sound-counted}
@@ -91,14 +90,17 @@ returns-2 c =
     let a = t .before .before .before .before .args in
     (short (contentsFor (a .values)) (a .out .now) (sound t) (omega (arith, c .before .length-of .ensures, c .if1 .taken)), refl)
 
+put-lead-requires : tie.Need-put-lead-requires
+put-lead-requires c κs = search needs
+
 codes-requires : tie.Need-put-section-requires
-codes-requires c κs = counted (c .before .before .before) Permissions
+codes-requires c κs = counted (c .before .before .before .before .before .before .before) Permissions
 
 rows-requires : tie.Need-put-section-requires-2
-rows-requires c κs = counted (c .before .before .before .before .before .before .before) Rows
+rows-requires c κs = counted (c .before .before .before .before .before .before .before .before .before .before .before) Rows
 
 policies-requires : tie.Need-put-section-requires-3
-policies-requires c κs = counted (c .before .before .before .before .before .before .before .before .before .before .before) Policies
+policies-requires c κs = counted (c .before .before .before .before .before .before .before .before .before .before .before .before .before .before .before) Policies
 
 same-length : tie.Need-same-length
 same-length c = search needs
@@ -108,13 +110,14 @@ returns-3 c =
     let policies = c .before .before in
     let rows = policies .before .before .before .before in
     let codes = rows .before .before .before .before in
-    let room = codes .before .before in
+    let leading = codes .before .before .before .before in
+    let room = leading .before .before in
     let t = room .before .before in
     let a = t .before .before .before .before .args in
     let v = a .values in
-    let all = append-assoc (sectionBytes v Permissions) (sectionBytes v Rows) (sectionBytes v Policies) ∙ bytes-by-sections v in (
+    let all = bytes-by-sections v in (
       written (contentsFor v) (a .out .now) (sound t) (omega (arith, room .before .length-of .ensures, room .if1 .left)) _ _
-          (read-as all (codes .put-section .ensures then rows .put-section2 .ensures then policies .put-section3 .ensures)),
+          (read-as all (leading .put-lead .ensures then (codes .put-section .ensures then (rows .put-section2 .ensures then policies .put-section3 .ensures)))),
       refl,
     )
 
@@ -128,6 +131,7 @@ write-spec =
     enum-told
     length-of-requires
     returns-2
+    put-lead-requires
     codes-requires
     rows-requires
     policies-requires

@@ -9,7 +9,7 @@ use Rattle.sets.specs.Arrays.{tabulate}
 use Rattle.roster.specs.Limits.{rowLimit}
 use Rattle.roster.specs.declared.Policy.{Policy}
 use Rattle.book.specs.Layout.{permissionLimit, policyLimit}
-use Rattle.book.specs.Reading.{Kind, notAbove, codes, rows, policies}
+use Rattle.book.specs.Reading.{Kind, notAbove, codes, rowsOf, policies}
 use Rattle.book.specs.Steps.{countLookIn}
 use Rattle.book.specs.declared.Fault.{Fault}
 use Rattle.book.specs.declared.Look.{Look}
@@ -67,7 +67,7 @@ lookWith kind listed f i = kind .faults listed (priorTo f i) (f i)
 
 abbrev pub lookAt : Values → Section → ℕ → Look
 lookAt v Permissions = lookWith codes 0 (codeIn v)
-lookAt v Rows = lookWith rows (v .«code_count») (rowIn v)
+lookAt v Rows = lookWith (rowsOf (v .form)) (v .«code_count») (rowIn v)
 lookAt v Policies = lookWith policies (v .«code_count») (policyIn v)
 
 -- all looks at a section: at its count, then at its entries

@@ -1,15 +1,21 @@
 -- What the writer's own functions append: the bytes of an entry by its index, and of a section. Nothing here is proved: these are definitions.
+use mathlib.Core.Bool.{Bool, true, false}
 use mathlib.Core.List.{List, [], _∷_, _++_}
 use Prim.Native.Nat.{ℕ, zero, suc}
-use Rattle.book.specs.Layout.{codeWidths, rowWidths, policyWidths, codeFields, rowFields, policyFields, fieldBytes}
+use Rattle.book.specs.Layout.{codeWidths, rowWidths, policyWidths, codeFields, rowFields, policyFields, hasPersons, littleEndian, fieldBytes}
 use Rattle.book.specs.declared.Section.{Section}
 use Rattle.book.specs.declared.Section.the-variants.{Permissions, Rows, Policies}
 use Rattle.values.specs.Inner.Looks.{countOf, codeIn, rowIn, policyIn}
 use Rattle.values.specs.declared.Values.{Values}
 
+-- a person number, where there is one
+abbrev pub personBytes : Bool → ℕ → List ℕ
+personBytes false person = []
+personBytes true person = littleEndian 4 person
+
 abbrev pub entryBytes : Values → Section → ℕ → List ℕ
 entryBytes v Permissions i = fieldBytes codeWidths (codeFields (codeIn v i))
-entryBytes v Rows i = fieldBytes rowWidths (rowFields (rowIn v i))
+entryBytes v Rows i = fieldBytes (rowWidths (hasPersons (v .form))) (rowFields (hasPersons (v .form)) (rowIn v i))
 entryBytes v Policies i = fieldBytes policyWidths (policyFields (policyIn v i))
 
 -- n entries from this index on

@@ -12,11 +12,11 @@ use lib.ListN.{length}
 use borrow.Author.Tests.{ltb-false}
 use Rattle.roster.specs.Laws.Rulings.{inside, policy-within}
 use Rattle.roster.specs.declared.Policy.{Policy}
-use Rattle.book.specs.Layout.{Contents, permissionLimit, codeFields, rowFields, policyFields, bytesOf, PolicyFits, Admitted}
-use Rattle.book.specs.Reading.{Kind, codes, rows, policies}
+use Rattle.book.specs.Layout.{Contents, permissionLimit, codeFields, rowFields, policyFields, hasPersons, bytesOf, PolicyFits, Admitted}
+use Rattle.book.specs.Reading.{Kind, codes, rowsOf, policies}
 use Rattle.book.specs.Laws.First.{not-faulty}
 use Rattle.book.specs.Laws.Sections.{Codec, Faultless}
-use Rattle.book.specs.Laws.Values.{code-codec, row-codec, policy-codec, each, each-both, codes-sound, rows-sound, policies-sound}
+use Rattle.book.specs.Laws.Values.{code-codec, row-codec, policy-codec, each, RowFits, each-row-fits, codes-sound, rows-sound, policies-sound}
 use Rattle.book.specs.Laws.Books.{layout-good}
 use Rattle.book.specs.declared.Row.{Row}
 use Rattle.values.specs.Writing.{valueLooks, sectionIn, firstOf, faultIn}
@@ -40,7 +40,8 @@ admitted-laidable v a =
     record {
       typed = record {
         codes = a .codes;
-        rows = each-both _ _ (v .rows) (a .staff) (each (λ (row : Row). low listed (a .permissions) (row .holdings)) (v .rows) (a .holdings));
+        rows = each-row-fits (hasPersons (v .form)) 32 (v .rows) (a .staff) (a .persons) (a .own)
+            (each (λ (row : Row). low listed (a .permissions) (row .holdings)) (v .rows) (a .holdings));
         tasks = each (λ (p : Policy) (f : PolicyFits listed p). low listed (a .permissions) (p .task) (f .task)) (v .policies) (a .sound);
       };
       narrow = each (policy-narrow listed) (v .policies) (a .sound);
@@ -59,15 +60,16 @@ none-admitted : (v : Contents) → Typed v → faultIn v ≡ none → Admitted v
 none-admitted v t e =
     let listed = length (v .codes) in
     let one = sectionIn codes 0 (v .codes) in
-    let two = sectionIn rows listed (v .rows) in
+    let persons = hasPersons (v .form) in
+    let two = sectionIn (rowsOf (v .form)) listed (v .rows) in
     let three = sectionIn policies listed (v .policies) in
     let first = neither _ _ (sym (first-append one (two ++ three)) ∙ e) in
     let second = neither _ _ (sym (first-append two three) ∙ first .1) in
     let c = section-none codes codeFields code-codec 0 (v .codes) (first .0) in
-    let r = section-none rows rowFields row-codec listed (v .rows) (second .0) in
+    let r = section-none (rowsOf (v .form)) (rowFields persons) (row-codec persons) listed (v .rows) (second .0) in
     let p = section-none policies policyFields policy-codec listed (v .policies) (second .1) in
     let range = inside permissionLimit listed (c .0) in
-    let held = rows-sound listed (v .rows) (r .1) in
+    let held = rows-sound persons listed (v .rows) (r .1) in
     record {
       some = range .0;
       permissions = range .1;
@@ -75,8 +77,10 @@ none-admitted v t e =
       policies = ltb-false _ _ (p .0);
       codes = t .codes;
       codesAscend = codes-sound 0 (v .codes) (c .1);
-      staff = each (λ (row : Row) (h : (row .staff < 2 ^ 32) × (row .holdings < 2 ^ 32)). h .0) (v .rows) (t .rows);
+      staff = each (λ (row : Row) (h : RowFits persons 32 row). h .staff) (v .rows) (t .rows);
       staffAscends = held .0;
+      persons = each (λ (row : Row) (h : RowFits persons 32 row). h .person) (v .rows) (t .rows);
+      own = each (λ (row : Row) (h : RowFits persons 32 row). h .own) (v .rows) (t .rows);
       holdings = held .1;
       sound = policies-sound listed none (v .policies) (p .1);
     }
@@ -84,7 +88,7 @@ none-admitted v t e =
 -- by way of the reader, who finds no fault in the layout of admitted values
 pub admitted-none : (v : Contents) → Admitted v → faultIn v ≡ none
 admitted-none v a =
-    sym (as-in-the-reader v (admitted-laidable v a)) ∙ ap faultOf (layout-good v (bytesOf v) (record { admitted = a; bytes = refl }))
+    sym (as-in-the-reader v (admitted-laidable v a) (λ old many. omega (arith, a .permissions))) ∙ ap faultOf (layout-good v (bytesOf v) (record { admitted = a; bytes = refl }))
 
 pub sound-iff-admitted : (v : Contents) → Typed v → (faultIn v ≡ none) ↔ Admitted v
 sound-iff-admitted v t = (none-admitted v t, admitted-none v)

@@ -15,11 +15,12 @@ use Rattle.roster.specs.declared.Ruling.{Ruling}
 use Rattle.roster.specs.declared.Ruling.the-variants as ruling
 use Rattle.book.specs.Layout.{Contents}
 use Rattle.book.specs.Faults.{faultNumber}
-use Rattle.book.specs.Reading.{Kind, faultIf, notAbove, pastListed, staffOf, byMade, codes, rows, policies}
+use Rattle.book.specs.Reading.{Kind, faultIf, notAbove, pastListed, staffOf, byMade, codes, rowsOf, policies}
 use Rattle.book.specs.declared.Fault.{Fault}
 use Rattle.book.specs.declared.Fault.the-variants as fault
 use Rattle.book.specs.declared.Look.{Look}
 use Rattle.book.specs.declared.Look.the-variants.{Sound, Faulty}
+use Rattle.book.specs.declared.Form.{Form}
 use Rattle.book.specs.declared.Row.{Row}
 use Rattle.values.specs.Writing.{unwrittenNumber, valueLooks, sectionIn, firstOf, faultIn, Writes}
 use Rattle.values.specs.Promises.{FaultNumber, WriterNumber}
@@ -44,8 +45,8 @@ told-if false f rest n t = t
 told-code : (listed : ℕ) (before : Option ℕ) (code : ℕ) → Told (codes .faults listed before code)
 told-code listed before code = told-if (notAbove before code) fault.Code Sound (inr (omega arith, omega arith)) tt
 
-told-row : (listed : ℕ) (before : Option Row) (row : Row) → Told (rows .faults listed before row)
-told-row listed before row =
+told-row : (form : Form) (listed : ℕ) (before : Option Row) (row : Row) → Told (rowsOf form .faults listed before row)
+told-row form listed before row =
     told-if (notAbove (staffOf before) (row .staff)) fault.Staff _ (inr (omega arith, omega arith))
     (told-if (pastListed listed (row .holdings)) fault.Holdings Sound (inr (omega arith, omega arith)) tt)
 
@@ -96,8 +97,8 @@ fault-number v f e =
     let listed = length (v .codes) in
     subst ToldIn e
     (told-append (sectionIn codes 0 (v .codes)) _ (section-told codes (inr (omega arith, omega arith)) told-code 0 (v .codes))
-    (told-append (sectionIn rows listed (v .rows)) (sectionIn policies listed (v .policies))
-    (section-told rows (inr (omega arith, omega arith)) told-row listed (v .rows))
+    (told-append (sectionIn (rowsOf (v .form)) listed (v .rows)) (sectionIn policies listed (v .policies))
+    (section-told (rowsOf (v .form)) (inr (omega arith, omega arith)) (told-row (v .form)) listed (v .rows))
     (section-told policies (inr (omega arith, omega arith)) told-policy listed (v .policies))))
 
 -- ---- of a refusal

@@ -1,26 +1,28 @@
 -- "reading any good book and writing it gives the same bytes", and what was written gives its values back. Assumes nothing.
-use mathlib.Core.Path.{_≡_, refl, sym, ap, _∙_, subst}
+use mathlib.Core.Path.{_≡_, refl, sym, ap, ap₂, _∙_, subst}
 use mathlib.Core.List.{List, [], _∷_, _++_}
 use Prim.Native.Nat.{ℕ, zero, suc, _≤_}
 use native.Mathlib.Omega.{arith}
 use lib.ListN.{length, getD, take, drop}
 use Rattle.sets.specs.Arrays.{tabulate}
 use Rattle.roster.specs.Limits.{rowLimit}
-use Rattle.roster.specs.declared.Policy.{Policy}
-use Rattle.book.specs.Layout.{Contents, permissionLimit, policyLimit, bytesOf, Admitted}
-use Rattle.book.specs.Reading.{readOf}
+use Rattle.book.specs.Layout.{Contents, hasPersons, permissionLimit, policyLimit, bytesOf, Own, Each, Admitted}
+use Rattle.book.specs.Reading.{formOf, readOf}
 use Rattle.book.specs.Parts.{contentsOf}
 use Rattle.book.specs.Promises.{Bytes}
 use Rattle.book.specs.Laws.Books.{good-layout}
 use Rattle.book.specs.declared.Fault.{Fault}
 use Rattle.book.specs.declared.Reading.{Reading}
 use Rattle.book.specs.declared.Reading.the-variants as read
+use Rattle.book.specs.declared.Form.{Form}
+use Rattle.book.specs.declared.Form.the-variants.{Old, Persons}
 use Rattle.book.specs.declared.Row.{Row}
 use Rattle.book.specs.declared.Starts.{Starts}
-use Rattle.values.specs.Values.{nobody, unasked, contentsFor, valuesFor, noValues, contentsBy, valuesOf}
+use Rattle.values.specs.Values.{nobody, unasked, rowFor, contentsFor, valuesFor, noValues, contentsBy, valuesOf}
 use Rattle.values.specs.Writing.{Writes}
 use Rattle.values.specs.Promises.{Typed}
 use Rattle.values.specs.Laws.Admitted.{sound-iff-admitted, admitted-none}
+use Rattle.values.specs.Laws.Meant.{contents-of}
 use Rattle.values.specs.Laws.Outcome.{is-written, reads-back}
 use Rattle.values.specs.declared.Wrote.{Wrote}
 use Rattle.values.specs.declared.Wrote.the-variants.{Written}
@@ -35,16 +37,24 @@ out-again none n [] h = refl
 out-again none zero (x ∷ l) h = absurd (omega arith)
 out-again {A} none (suc n) (x ∷ l) h = ap (λ (m : List A). x ∷ m) (out-again none n l (omega arith))
 
-contents-at : {c c′ : List ℕ} {r r′ : List Row} {p p′ : List Policy} → c ≡ c′ → r ≡ r′ → p ≡ p′
-    → _≡_ {A = Contents} (record { codes = c; rows = r; policies = p }) (record { codes = c′; rows = r′; policies = p′ })
-contents-at e h k = rw (e, h, k)
+-- rows that have the fields of their form and no others are those that these fields say
+own-row : (form : Form) (row : Row) → Own (hasPersons form) row → rowFor form row ≡ row
+own-row Old row o = rw o
+own-row Persons row o = refl
+
+rows-again : (form : Form) (n : ℕ) (l : List Row) → length l ≤ n → Each (Own (hasPersons form)) l
+    → tabulate (length l) (λ i. rowFor form (getD (tabulate n (λ j. getD l j nobody)) i nobody)) ≡ l
+unfolding tabulate Each
+rows-again form n [] h o = refl
+rows-again form zero (x ∷ l) h o = absurd (omega arith)
+rows-again form (suc n) (x ∷ l) h o = ap₂ (λ (y : Row) (m : List Row). y ∷ m) (own-row form x (o .0)) (rows-again form n l (omega arith) (o .1))
 
 -- values that a book may have are all there in their arrays
 pub values-for : (v : Contents) → Admitted v → contentsFor (valuesFor v) ≡ v
 unfolding contentsFor valuesFor
 values-for v a =
-    contents-at (out-again 0 permissionLimit (v .codes) (a .permissions))
-    (out-again nobody rowLimit (v .rows) (a .rows))
+    contents-of (out-again 0 permissionLimit (v .codes) (a .permissions))
+    (rows-again (v .form) rowLimit (v .rows) (a .rows) (a .own))
     (out-again unasked policyLimit (v .policies) (a .policies))
 
 -- ---- the values of a book
@@ -56,7 +66,7 @@ values-of-good book s bytes e =
     ap (λ (r : Reading). contentsFor (valuesFor (contentsBy book r))) e ∙ values-for (contentsOf book) (good-layout book s bytes e .admitted)
 
 -- "a refused book has none"
-pub values-of-refused : (book : List ℕ) (f : Fault) (at : ℕ) → readOf book ≡ read.Refused f at → valuesOf book ≡ noValues
+pub values-of-refused : (book : List ℕ) (f : Fault) (at : ℕ) → readOf book ≡ read.Refused f at → valuesOf book ≡ noValues (formOf book)
 unfolding valuesOf
 values-of-refused book f at e = ap (λ (r : Reading). valuesFor (contentsBy book r)) e
 

@@ -1,21 +1,25 @@
 -- "Refusals: 12 to 18 and 2 to 5 as in the reader, in reading order": what is looked at of values is what the reader looks at of their layout, so
 -- the fault is the same. Assumes nothing.
 use mathlib.Core.Path.{_≡_, refl, sym, ap, _∙_}
-use mathlib.Core.Bool.{Bool}
+use mathlib.Core.Bool.{Bool, false}
+use mathlib.Core.Logic.{_≢_}
 use mathlib.Core.Option.{none, some}
 use mathlib.Core.List.{List, [], _∷_, _++_, map, append-assoc, append-nil}
 use Prim.Native.Nat.{ℕ, _+_, _*_, _^_, _≤_, _<_}
 use native.Mathlib.Nat.{mul-suc}
 use native.Mathlib.Omega.{arith}
 use lib.ListN.{length, drop, length-append}
-use borrow.Author.Tests.{le-ltb}
+use lib.Dec.{eqb}
+use borrow.Author.Tests.{le-ltb, lt-ltb, ne-eqb}
 use Rattle.roster.specs.declared.Policy.{Policy}
-use Rattle.book.specs.Layout.{Contents, Each, bytesOf, section, joined, codeWidths, codeFields, rowWidths, rowFields, policyWidths, policyFields}
-use Rattle.book.specs.Reading.{Kind, Found, faultIf, width, entryAt, prior, countLook, entryLook, inTurn, sectionLooks, past, listedIn, endLook, looks, looksFromRows, looksFromPolicies, codes, rows, policies, firstFault, startsOf, readOf}
+use Rattle.book.specs.Layout.{Contents, Each, bytesOf, section, joined, codeWidths, codeFields, rowWidths, rowFields, policyWidths, policyFields, hasPersons, lead, permissionLimit}
+use Rattle.book.specs.Reading.{Kind, Found, faultIf, width, entryAt, prior, countLook, entryLook, inTurn, sectionLooks, past, formOf, front, listedIn, endLook, looks, looksBy, looksFromRows, looksFromPolicies, codes, rowsOf, policies, firstFault, startsOf, readOf}
 use Rattle.book.specs.Laws.Codec.{Fit, after, head-at, tail-at, fields-length, fields-read}
 use Rattle.book.specs.Laws.Sections.{Codec, bytesFor, Fits, joined-length, section-read}
 use Rattle.book.specs.Laws.Values.{code-codec, row-codec, policy-codec, each, each-both, code-fits, row-fits}
-use Rattle.book.specs.Laws.Books.{rowsAt, policiesAt}
+use Rattle.book.specs.Laws.Books.{rowsAt, policiesAt, by-lead, lead-front}
+use Rattle.book.specs.declared.Form.{Form}
+use Rattle.book.specs.declared.Form.the-variants.{Old}
 use Rattle.book.specs.declared.Fault.the-variants as fault
 use Rattle.book.specs.declared.Look.{Look}
 use Rattle.book.specs.declared.Look.the-variants.{Sound, Faulty}
@@ -33,8 +37,8 @@ look x = x .look
 -- ---- values that have a layout fit their fields
 
 policy-goes : (p : Policy) → (p .task < 2 ^ 32) × Narrow p → Fits policies policyFields policy-codec p
-unfolding Fit
-policy-goes p h = (h .0, (omega (arith, h .1 .0), (omega (arith, h .1 .1), (omega (arith, h .1 .2), tt))))
+unfolding Fit policy-codec
+policy-goes p h = ((h .0, (omega (arith, h .1 .0), (omega (arith, h .1 .1), (omega (arith, h .1 .2), tt)))), tt)
 
 -- ---- what is looked at
 
@@ -48,10 +52,10 @@ module _ {A : Type 0} (kind : Kind A) (fields : A → List ℕ) (codec : Codec k
   entries-looks (x ∷ vs) book before at rest f l e h =
       let e′ = e ∙ append-assoc (bytesFor kind fields codec x) (joined (bytesFor kind fields codec) vs) rest in
       let here : entryAt kind book at ≡ x =
-      ap (kind .value) (fields-read (kind .widths) (fields x) book at (joined (bytesFor kind fields codec) vs ++ rest) (f .0) e′) ∙ codec .back x in
+      ap (kind .value) (fields-read (kind .widths) (fields x) book at (joined (bytesFor kind fields codec) vs ++ rest) (f .0 .0) e′) ∙ codec .back x (f .0 .1) in
       let there = after book at (bytesFor kind fields codec x) (joined (bytesFor kind fields codec) vs ++ rest) e′ in
       let next : drop (at + width kind) book ≡ joined (bytesFor kind fields codec) vs ++ rest =
-      ap (λ (k : ℕ). drop (at + k) book) (sym (fields-length (kind .widths) (fields x) (f .0))) ∙ there in
+      ap (λ (k : ℕ). drop (at + k) book) (sym (fields-length (kind .widths) (fields x) (f .0 .0))) ∙ there in
       let more = mul-suc (width kind) (length vs) in
       let whole : at + width kind ≤ length book = omega arith in
       let ih = entries-looks vs book (Entry at) (at + width kind) rest (f .1) whole next (omega arith) in
@@ -76,38 +80,46 @@ map-append f (x ∷ l) m = ap (λ (r : List _). f x ∷ r) (map-append f l m)
 joins : {A : Type 0} {a b c d : List A} → a ≡ b → c ≡ d → a ++ c ≡ b ++ d
 joins e h = rw (e, h)
 
--- all that is looked at of a layout is what is looked at of its values, and then its end
-pub layout-looks : (v : Contents) → Laidable v → map look (looks (bytesOf v)) ≡ looksIn v ++ (Sound ∷ [])
+-- all that is looked at of a layout, by its own form, is what is looked at of its values, and then its end
+by-form-looks : (v : Contents) → Laidable v → map look (looksBy (v .form) (bytesOf v)) ≡ looksIn v ++ (Sound ∷ [])
 unfolding bytesOf
-layout-looks v f =
+by-form-looks v f =
     let book = bytesOf v in
+    let form = v .form in
+    let persons = hasPersons form in
     let codesFit = each code-fits (v .codes) (f .typed .codes) in
-    let rowsFit = each (row-fits 32 (omega arith)) (v .rows) (f .typed .rows) in
+    let rowsFit = each (row-fits persons 32 (omega arith)) (v .rows) (f .typed .rows) in
     let policiesFit = each policy-goes (v .policies) (each-both _ _ (v .policies) (f .typed .tasks) (f .narrow)) in
     let sec1 = section codeWidths codeFields (v .codes) in
-    let sec2 = section rowWidths rowFields (v .rows) in
+    let sec2 = section (rowWidths persons) (rowFields persons) (v .rows) in
     let sec3 = section policyWidths policyFields (v .policies) in
-    let one = section-read codes codeFields code-codec (v .codes) book 0 (sec2 ++ sec3) codesFit refl in
-    let two = section-read rows rowFields row-codec (v .rows) book (rowsAt book) sec3 rowsFit (one .left) in
-    let three = section-read policies policyFields policy-codec (v .policies) book (policiesAt book) [] policiesFit (two .left ∙ sym (append-nil sec3)) in
-    let long : length book ≡ length sec1 + (length sec2 + length sec3) =
-    length-append sec1 (sec2 ++ sec3) ∙ ap (λ (n : ℕ). length sec1 + n) (length-append sec2 sec3) in
+    let begins = lead-front form in
+    let first : front form ≡ 0 + length (lead form) = omega arith in
+    let after-lead : drop (front form) book ≡ sec1 ++ (sec2 ++ sec3) =
+    ap (λ (k : ℕ). drop k book) first ∙ after book 0 (lead form) (sec1 ++ (sec2 ++ sec3)) refl in
+    let listed = listedIn form book in
+    let one = section-read codes codeFields code-codec (v .codes) book (front form) (sec2 ++ sec3) codesFit after-lead in
+    let two = section-read (rowsOf form) (rowFields persons) (row-codec persons) (v .rows) book (rowsAt form book) sec3 rowsFit (one .left) in
+    let three = section-read policies policyFields policy-codec (v .policies) book (policiesAt form book) [] policiesFit (two .left ∙ sym (append-nil sec3)) in
+    let lead-long = length-append (lead form) (sec1 ++ (sec2 ++ sec3)) in
+    let long : length book ≡ length (lead form) + (length sec1 + (length sec2 + length sec3)) =
+    omega (arith, lead-long, length-append sec1 (sec2 ++ sec3), length-append sec2 sec3) in
     let end1 = one .ends in
     let end2 = two .ends in
     let end3 = three .ends in
-    let look1 = section-looks codes codeFields code-codec 0 (v .codes) book 0 (sec2 ++ sec3) codesFit refl (omega arith) in
-    let look2 = section-looks rows rowFields row-codec (listedIn book) (v .rows) book (rowsAt book) sec3 rowsFit (one .left) (omega arith) in
-    let look3 = section-looks policies policyFields policy-codec (listedIn book) (v .policies) book (policiesAt book) [] policiesFit (two .left ∙ sym (append-nil sec3)) (omega arith) in
-    let end = le-ltb (past policies book (policiesAt book)) (length book) (omega arith) in
-    map-append look (sectionLooks codes book 0 0) (looksFromRows book (rowsAt book))
+    let look1 = section-looks codes codeFields code-codec 0 (v .codes) book (front form) (sec2 ++ sec3) codesFit after-lead (omega arith) in
+    let look2 = section-looks (rowsOf form) (rowFields persons) (row-codec persons) listed (v .rows) book (rowsAt form book) sec3 rowsFit (one .left) (omega arith) in
+    let look3 = section-looks policies policyFields policy-codec listed (v .policies) book (policiesAt form book) [] policiesFit (two .left ∙ sym (append-nil sec3)) (omega arith) in
+    let end = le-ltb (past policies book (policiesAt form book)) (length book) (omega arith) in
+    map-append look (sectionLooks codes book 0 (front form)) (looksFromRows form book (rowsAt form book))
     ∙ joins look1 (
-    map-append look (sectionLooks rows book (listedIn book) (rowsAt book)) (looksFromPolicies book (policiesAt book))
-    ∙ joins (look2 ∙ ap (λ (n : ℕ). sectionIn rows n (v .rows)) (one .count)) (
-    map-append look (sectionLooks policies book (listedIn book) (policiesAt book)) (endLook book (past policies book (policiesAt book)) ∷ [])
+    map-append look (sectionLooks (rowsOf form) book listed (rowsAt form book)) (looksFromPolicies form book (policiesAt form book))
+    ∙ joins (look2 ∙ ap (λ (n : ℕ). sectionIn (rowsOf form) n (v .rows)) (one .count)) (
+    map-append look (sectionLooks policies book listed (policiesAt form book)) (endLook book (past policies book (policiesAt form book)) ∷ [])
     ∙ joins (look3 ∙ ap (λ (n : ℕ). sectionIn policies n (v .policies)) (one .count)) (ap (λ (b : Bool). faultIf b fault.Excess Sound ∷ []) end)))
     ∙ sym (
     append-assoc (sectionIn codes 0 (v .codes)) _ (Sound ∷ [])
-    ∙ ap (λ (l : List Look). sectionIn codes 0 (v .codes) ++ l) (append-assoc (sectionIn rows (length (v .codes)) (v .rows)) (sectionIn policies (length (v .codes)) (v .policies)) (Sound ∷ [])))
+    ∙ ap (λ (l : List Look). sectionIn codes 0 (v .codes) ++ l) (append-assoc (sectionIn (rowsOf form) (length (v .codes)) (v .rows)) (sectionIn policies (length (v .codes)) (v .policies)) (Sound ∷ [])))
 
 -- ---- the first fault
 
@@ -127,8 +139,28 @@ fault-by good g (x ∷ l) = go (x .look) (fault-by good g l)
     go Sound ih = ih
     go (Faulty f) ih = refl
 
+-- ---- the form
+
+-- the layout tells the form, but for an old one of exactly 200 permissions, which is no book: 12 is told of it (`many-codes`)
+abbrev pub Tells : Contents → Type 0
+Tells v = v .form ≡ Old → length (v .codes) ≢ 200
+
+form-told : (v : Contents) → Tells v → formOf (bytesOf v) ≡ v .form
+unfolding formOf bytesOf
+form-told v n = by-lead (v .form) (length (v .codes)) _ n
+
+pub many-codes : (v : Contents) → permissionLimit < length (v .codes) → faultIn v ≡ some fault.Permissions
+unfolding firstOf
+many-codes v many =
+    let some-codes : eqb (length (v .codes)) 0 ≡ false = ne-eqb (length (v .codes)) 0 (λ e. omega arith) in
+    rw (some-codes, lt-ltb permissionLimit (length (v .codes)) many)
+
 -- "12 to 18 and 2 to 5 as in the reader, in reading order": the first fault of the values is the one that the reader finds in their layout
-pub as-in-the-reader : (v : Contents) → Laidable v → faultOf (readOf (bytesOf v)) ≡ faultIn v
+pub as-in-the-reader : (v : Contents) → Laidable v → Tells v → faultOf (readOf (bytesOf v)) ≡ faultIn v
 unfolding readOf
-as-in-the-reader v f =
-    fault-by (read.Good (startsOf (bytesOf v))) refl (looks (bytesOf v)) ∙ ap firstOf (layout-looks v f) ∙ first-none (looksIn v)
+as-in-the-reader v f n =
+    let book = bytesOf v in
+    fault-by (read.Good (startsOf (formOf book) book)) refl (looks book)
+    ∙ ap (λ (form : Form). firstOf (map look (looksBy form book))) (form-told v n)
+    ∙ ap firstOf (by-form-looks v f)
+    ∙ first-none (looksIn v)

@@ -17,7 +17,7 @@ use Rattle.roster.specs.declared.Ruling.{Ruling}
 use Rattle.roster.specs.declared.Ruling.the-variants as ruling
 use Rattle.book.specs.Layout.{Contents}
 use Rattle.book.specs.Faults.{faultNumber}
-use Rattle.book.specs.Reading.{faultIf, pastListed, byMade, codes, rows, policies}
+use Rattle.book.specs.Reading.{faultIf, pastListed, byMade, codes, rowsOf, policies}
 use Rattle.book.specs.declared.Fault.{Fault}
 use Rattle.book.specs.declared.Fault.the-variants as fault
 use Rattle.book.specs.declared.Look.{Look}
@@ -79,7 +79,7 @@ wide-refused v before after p e wide =
     let own = told-of (pastListed listed (p .task)) (eqb (p .task) 0) (ownRuling p) p more (own-ruling p) (wide-not-admitted p wide) in
     let count = faultIf (policies .outOfRange (length (v .policies))) (policies .countFault) Sound in
     let one = sectionIn codes 0 (v .codes) in
-    let two = sectionIn rows listed (v .rows) in
+    let two = sectionIn (rowsOf (v .form)) listed (v .rows) in
     let last = some (own .fault) in
     let mine = policies .faults listed none p ∷ more in
     let task = taskLook (pastListed listed (p .task)) (eqb (p .task) 0) ∷ [] in

@@ -29,19 +29,19 @@ returns : tie.Need-returns
 unfolding entryLook
 returns c =
     let a = c .before .before .before .before .args in
-    c .look-code .ensures ∙ ap (λ (s : Section). lookIn s (a .book .now) (a .listed) (a .cursor .before) (a .cursor .at)) (sym (c .before .enum-told .given .1))
+    c .look-code .ensures ∙ ap (λ (s : Section). lookIn (a .form) s (a .book .now) (a .listed) (a .cursor .before) (a .cursor .at)) (sym (c .before .enum-told .given .1))
 
 returns-2 : tie.Need-returns-2
 unfolding entryLook
 returns-2 c =
     let a = c .before .before .before .before .args in
-    c .look-row .ensures ∙ ap (λ (s : Section). lookIn s (a .book .now) (a .listed) (a .cursor .before) (a .cursor .at)) (sym (c .before .enum-told2 .given .1))
+    c .look-row .ensures ∙ ap (λ (s : Section). lookIn (a .form) s (a .book .now) (a .listed) (a .cursor .before) (a .cursor .at)) (sym (c .before .enum-told2 .given .1))
 
 returns-3 : tie.Need-returns-3
 unfolding entryLook
 returns-3 c =
     let a = c .before .before .before .before .args in
-    c .look-policy .ensures ∙ ap (λ (s : Section). lookIn s (a .book .now) (a .listed) (a .cursor .before) (a .cursor .at)) (sym (c .before .enum-told3 .given .1))
+    c .look-policy .ensures ∙ ap (λ (s : Section). lookIn (a .form) s (a .book .now) (a .listed) (a .cursor .before) (a .cursor .at)) (sym (c .before .enum-told3 .given .1))
 
 pub look-entry-spec : {M : Type 1} → statement M
 look-entry-spec =

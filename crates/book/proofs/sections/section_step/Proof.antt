@@ -34,15 +34,15 @@ returns : tie.Need-returns
 returns c =
     let l = c .before .before .before in
     let a = l .before .before .args in
-    sym (section-faulty (a .section) (a .book .now) (a .listed) (a .at) _ (sym (l .look-count .ensures) ∙ c .before .fault .given .1))
+    sym (section-faulty (a .form) (a .section) (a .book .now) (a .listed) (a .at) _ (sym (l .look-count .ensures) ∙ c .before .fault .given .1))
 
 returns-2 : tie.Need-returns-2
 returns-2 c =
     let l = c .before .before .before .before in
     let a = l .before .before .args in
     c .entries .ensures
-    ∙ ap (stepFrom (lookIn (a .section) (a .book .now) (a .listed)) (widthIn (a .section)) (startAt (a .at + 1))) (c .before .count-at .ensures)
-    ∙ sym (section-sound (a .section) (a .book .now) (a .listed) (a .at) (sym (l .look-count .ensures) ∙ c .before .before .enum-told .given .1))
+    ∙ ap (stepFrom (lookIn (a .form) (a .section) (a .book .now) (a .listed)) (widthIn (a .form) (a .section)) (startAt (a .at + 1))) (c .before .count-at .ensures)
+    ∙ sym (section-sound (a .form) (a .section) (a .book .now) (a .listed) (a .at) (sym (l .look-count .ensures) ∙ c .before .before .enum-told .given .1))
 
 pub section-step-spec : {M : Type 1} → statement M
 section-step-spec =

@@ -5,10 +5,10 @@ use Rattle.edges.proofs.pages.touched.Statement.{statement}
 use Rattle.edges.proofs.pages.touched.Tie as tie
 
 abbrev Inv-loop : tie.InvT-loop
-Inv-loop from bytes i₀ i = i ≤ 900
+Inv-loop from bytes i₀ i = i ≤ 1100
 
 abbrev μ-loop : tie.MeasureT-loop
-μ-loop from bytes i₀ i = 900 - i
+μ-loop from bytes i₀ i = 1100 - i
 
 pub touched-spec : {M : Type 1} → statement M
 touched-spec =

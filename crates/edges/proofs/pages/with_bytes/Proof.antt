@@ -5,10 +5,10 @@ use Rattle.edges.proofs.pages.with_bytes.Statement.{statement}
 use Rattle.edges.proofs.pages.with_bytes.Tie as tie
 
 abbrev Inv-loop : tie.InvT-loop
-Inv-loop length bytes next₀ i₀ next i = i ≤ 900
+Inv-loop length bytes next₀ i₀ next i = i ≤ 1100
 
 abbrev μ-loop : tie.MeasureT-loop
-μ-loop length bytes next₀ i₀ next i = 900 - i
+μ-loop length bytes next₀ i₀ next i = 1100 - i
 
 pub with-bytes-spec : {M : Type 1} → statement M
 with-bytes-spec =

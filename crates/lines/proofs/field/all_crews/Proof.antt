@@ -13,23 +13,23 @@ use borrow.Author.Needs.{needs}
 use Rattle.lines.proofs.field.all_crews.Statement.{statement}
 use Rattle.lines.proofs.field.all_crews.Tie as tie
 
-none : (staff sets : List ℕ) → length sets ≡ 0 → space ∷ crewsText staff sets ≡ space ∷ dash ∷ []
+none : (numbers sets : List ℕ) → length sets ≡ 0 → space ∷ crewsText numbers sets ≡ space ∷ dash ∷ []
 unfolding joined filled
-none staff [] e = refl
-none staff (x ∷ l) e = absurd (omega arith)
+none numbers [] e = refl
+none numbers (x ∷ l) e = absurd (omega arith)
 
-empty : (staff sets : List ℕ) → getD sets 0 0 ≡ 0 → space ∷ crewsText staff sets ≡ space ∷ dash ∷ []
+empty : (numbers sets : List ℕ) → getD sets 0 0 ≡ 0 → space ∷ crewsText numbers sets ≡ space ∷ dash ∷ []
 unfolding joined filled
-empty staff [] e = refl
-empty staff (zero ∷ l) e = refl
-empty staff (suc x ∷ l) e = absurd (omega arith)
+empty numbers [] e = refl
+empty numbers (zero ∷ l) e = refl
+empty numbers (suc x ∷ l) e = absurd (omega arith)
 
-some : (staff sets : List ℕ) → getD sets 0 0 ≢ 0
-    → space ∷ crewsText staff sets ≡ marked space betweenCrews (map (setText staff) (filled sets))
+some : (numbers sets : List ℕ) → getD sets 0 0 ≢ 0
+    → space ∷ crewsText numbers sets ≡ marked space betweenCrews (map (setText numbers) (filled sets))
 unfolding filled
-some staff [] n = absurd (n refl)
-some staff (zero ∷ l) n = absurd (n refl)
-some staff (suc x ∷ l) n = mark-joined space betweenCrews (map (setText staff) (suc x ∷ filled l)) (λ z. omega arith)
+some numbers [] n = absurd (n refl)
+some numbers (zero ∷ l) n = absurd (n refl)
+some numbers (suc x ∷ l) n = mark-joined space betweenCrews (map (setText numbers) (suc x ∷ filled l)) (λ z. omega arith)
 
 no-set-requires : tie.Need-no-set-requires
 no-set-requires c κs = search needs
@@ -41,7 +41,7 @@ returns : tie.Need-returns
 returns c =
     let p = c .before .before .before .before in
     let a = p .before .before .before .args in
-    read-as (sym (none (a .staff .now) (a .sets .now) (p .if1 .taken))) (c .before .before .no-set .ensures)
+    read-as (sym (none (a .numbers .now) (a .sets .now) (p .if1 .taken))) (c .before .before .no-set .ensures)
 
 shared-slice-read-if2 : tie.Need-shared-slice-read-if2
 shared-slice-read-if2 c = search needs
@@ -56,7 +56,7 @@ returns-2 : tie.Need-returns-2
 returns-2 c =
     let p = c .before .before .before .before in
     let a = p .before .before .before .before .before .args in
-    read-as (sym (empty (a .staff .now) (a .sets .now) (p .if2 .taken))) (c .before .before .no-set2 .ensures)
+    read-as (sym (empty (a .numbers .now) (a .sets .now) (p .if2 .taken))) (c .before .before .no-set2 .ensures)
 
 crews-requires : tie.Need-crews-requires
 crews-requires c κs = search needs
@@ -68,7 +68,7 @@ returns-3 : tie.Need-returns-3
 returns-3 c =
     let p = c .before .before .before .before in
     let a = p .before .before .before .before .before .args in
-    read-as (sym (some (a .staff .now) (a .sets .now) (p .if2 .left))) (c .before .before .crews .ensures)
+    read-as (sym (some (a .numbers .now) (a .sets .now) (p .if2 .left))) (c .before .before .crews .ensures)
 
 pub all-crews-spec : {M : Type 1} → statement M
 all-crews-spec =

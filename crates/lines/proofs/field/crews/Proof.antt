@@ -14,16 +14,16 @@ use Rattle.lines.proofs.field.crews.Statement.{statement}
 use Rattle.lines.proofs.field.crews.Tie as tie
 
 abbrev Inv-loop : tie.InvT-loop
-Inv-loop out₀ at staff mark sets next₀ before₀ j₀ out next before j =
-    SoFar (marked mark betweenCrews (map (setText staff) (filled sets))) (crewsFrom staff sets before j) out₀ at out next
+Inv-loop out₀ at numbers mark sets next₀ before₀ j₀ out next before j =
+    SoFar (marked mark betweenCrews (map (setText numbers) (filled sets))) (crewsFrom numbers sets before j) out₀ at out next
 
 abbrev μ-loop : tie.MeasureT-loop
-μ-loop out₀ at staff mark sets next₀ before₀ j₀ out next before j = length sets - j
+μ-loop out₀ at numbers mark sets next₀ before₀ j₀ out next before j = length sets - j
 
 loop-holds : tie.Need-loop-holds Inv-loop μ-loop
 loop-holds c =
     let a = c .before .before .args in
-    let first : SoFar (marked (a .mark) betweenCrews (map (setText (a .staff .now)) (filled (a .sets .now)))) (crewsFrom (a .staff .now) (a .sets .now) (a .mark) 0) (a .out .now) (a .at) (a .out .now) (a .at) =
+    let first : SoFar (marked (a .mark) betweenCrews (map (setText (a .numbers .now)) (filled (a .sets .now)))) (crewsFrom (a .numbers .now) (a .sets .now) (a .mark) 0) (a .out .now) (a .at) (a .out .now) (a .at) =
     begin _ _ _ in
     first
 
@@ -40,7 +40,7 @@ returns : tie.Need-returns Inv-loop μ-loop
 returns c =
     let l = c .before .before .before .loop in
     let a = c .before .before .before .before .before .before .args in
-    finish (with-rest (crew-stop (a .staff .now) (a .sets .now) (l .before) (l .j) (c .before .before .loop-test .taken) (c .if1 .taken)) (l .inv))
+    finish (with-rest (crew-stop (a .numbers .now) (a .sets .now) (l .before) (l .j) (c .before .before .loop-test .taken) (c .if1 .taken)) (l .inv))
 
 mul-members : tie.Need-mul-members Inv-loop μ-loop
 mul-members c = search needs
@@ -52,12 +52,12 @@ shared-slice-read-members c = omega arith
 crew : (c : tie.After-shared-slice-known3 Inv-loop μ-loop)
     → let l = c .before .before .before .before .before .loop in
     let a = c .before .before .before .before .before .before .before .before .args in
-    crewsFrom (a .staff .now) (a .sets .now) (l .before) (l .j)
-    ≡ marked (l .before) betweenMembers (names (a .staff .now) (getD (a .sets .now) (l .j) 0)) ++ crewsFrom (a .staff .now) (a .sets .now) betweenCrews (suc (l .j))
+    crewsFrom (a .numbers .now) (a .sets .now) (l .before) (l .j)
+    ≡ marked (l .before) betweenMembers (names (a .numbers .now) (getD (a .sets .now) (l .j) 0)) ++ crewsFrom (a .numbers .now) (a .sets .now) betweenCrews (suc (l .j))
 crew c =
     let l = c .before .before .before .before .before .loop in
     let a = c .before .before .before .before .before .before .before .before .args in
-    crew-next (a .staff .now) (a .sets .now) (l .before) (l .j) (c .before .before .before .before .loop-test .taken)
+    crew-next (a .numbers .now) (a .sets .now) (l .before) (l .j) (c .before .before .before .before .loop-test .taken)
     (c .shared-slice-known3 .given (l .j) .fits) (c .before .before .if1 .left)
 
 members-requires : tie.Need-members-requires Inv-loop μ-loop
@@ -74,7 +74,7 @@ loop-again c =
     let p = c .before .before .before in
     let l = p .before .before .before .before .before .loop in
     let a = p .before .before .before .before .before .before .before .before .args in
-    with-rest (ap (crewsFrom (a .staff .now) (a .sets .now) betweenCrews) (sym (add-one (l .j))))
+    with-rest (ap (crewsFrom (a .numbers .now) (a .sets .now) betweenCrews) (sym (add-one (l .j))))
     (step _ (with-rest (crew p) (l .inv)) (c .before .before .members .ensures))
 
 same-length-2 : tie.Need-same-length-2 Inv-loop μ-loop
@@ -84,7 +84,7 @@ returns-2 : tie.Need-returns-2 Inv-loop μ-loop
 returns-2 c =
     let l = c .before .loop in
     let a = c .before .before .before .before .args in
-    finish (with-rest (crew-last (a .staff .now) (a .sets .now) (l .before) (l .j) (c .loop-test .left)) (l .inv))
+    finish (with-rest (crew-last (a .numbers .now) (a .sets .now) (l .before) (l .j) (c .loop-test .left)) (l .inv))
 
 pub crews-spec : {M : Type 1} → statement M
 crews-spec =

@@ -18,11 +18,11 @@ ne-zero : {n : ℕ} → (n ≡ 0 → ⊥) → 0 < n
 ne-zero h = omega arith
 
 abbrev Inv-loop : tie.InvT-loop
-Inv-loop out₀ at staff mark set next₀ before₀ left₀ out next before left =
-    (left < 2 ^ 64) × SoFar (marked mark betweenMembers (names staff set)) (marked before betweenMembers (names staff left)) out₀ at out next
+Inv-loop out₀ at numbers mark set next₀ before₀ left₀ out next before left =
+    (left < 2 ^ 64) × SoFar (marked mark betweenMembers (names numbers set)) (marked before betweenMembers (names numbers left)) out₀ at out next
 
 abbrev μ-loop : tie.MeasureT-loop
-μ-loop out₀ at staff mark set next₀ before₀ left₀ out next before left = ones left
+μ-loop out₀ at numbers mark set next₀ before₀ left₀ out next before left = ones left
 
 loop-holds : tie.Need-loop-holds Inv-loop μ-loop
 loop-holds c = (c .before .fits .set .fits, begin _ _ _)
@@ -41,13 +41,13 @@ next-left : (c : tie.After-least Inv-loop μ-loop)
     → let l = c .before .before .loop in
     let a = c .before .before .before .before .args in
     let row = c .least .result in
-    SoFar (marked (a .mark) betweenMembers (names (a .staff .now) (a .set)))
-    ((l .before ∷ decimal (getD (a .staff .now) row 0)) ++ marked betweenMembers betweenMembers (names (a .staff .now) (bitXor (l .left) (2 ^ row)))) (a .out .now) (a .at)
+    SoFar (marked (a .mark) betweenMembers (names (a .numbers .now) (a .set)))
+    ((l .before ∷ decimal (getD (a .numbers .now) row 0)) ++ marked betweenMembers betweenMembers (names (a .numbers .now) (bitXor (l .left) (2 ^ row)))) (a .out .now) (a .at)
     (l .out) (l .next)
 next-left c =
     let l = c .before .before .loop in
     let s = c .before .before .before .before in
-    with-rest (member-next (s .args .staff .now) (l .before) (l .left) (c .least .result) (l .inv .0) (c .before .loop-test .taken) (c .least .ensures)) (l .inv .1)
+    with-rest (member-next (s .args .numbers .now) (l .before) (l .left) (c .least .result) (l .inv .0) (c .before .loop-test .taken) (c .least .ensures)) (l .inv .1)
 
 cast-member : tie.Need-cast-member Inv-loop μ-loop
 cast-member c = omega (arith, least-left (c .before) .below)
@@ -67,9 +67,9 @@ loop-again : tie.Need-loop-again Inv-loop μ-loop
 loop-again c =
     let p = c .before .before .before .before .before in
     let l = p .before .before .loop in
-    let staff = p .before .before .before .before .args .staff .now in (
+    let numbers = p .before .before .before .before .args .numbers .now in (
       rw (c .without .ensures) (drop-lt 64 (l .left) (p .least .result) (l .inv .0) (least-left p .has)),
-      with-rest (ap (λ (m : ℕ). marked betweenMembers betweenMembers (names staff m)) (sym (c .without .ensures)))
+      with-rest (ap (λ (m : ℕ). marked betweenMembers betweenMembers (names numbers m)) (sym (c .without .ensures)))
           (step _ (next-left p) (c .before .before .before .member .ensures)),
     )
 
@@ -82,7 +82,7 @@ returns c =
     let s = c .before .before .before in
     finish
     (with-rest
-    (ap (λ (m : ℕ). marked (l .before) betweenMembers (names (s .args .staff .now) m)) (c .loop-test .left) ∙ member-last (s .args .staff .now) (l .before))
+    (ap (λ (m : ℕ). marked (l .before) betweenMembers (names (s .args .numbers .now) m)) (c .loop-test .left) ∙ member-last (s .args .numbers .now) (l .before))
     (l .inv .1))
 
 pub members-spec : {M : Type 1} → statement M

@@ -11,12 +11,12 @@ use borrow.Author.Needs.{needs}
 use Rattle.lines.proofs.field.one_set.Statement.{statement}
 use Rattle.lines.proofs.field.one_set.Tie as tie
 
-empty : (staff : List ℕ) (set : ℕ) → set ≡ 0 → space ∷ setText staff set ≡ space ∷ dash ∷ []
+empty : (numbers : List ℕ) (set : ℕ) → set ≡ 0 → space ∷ setText numbers set ≡ space ∷ dash ∷ []
 unfolding joined
-empty staff set e = ap (λ (l : List (List ℕ)). space ∷ joined betweenMembers l) (ap (names staff) e ∙ names-none staff)
+empty numbers set e = ap (λ (l : List (List ℕ)). space ∷ joined betweenMembers l) (ap (names numbers) e ∙ names-none numbers)
 
-some : (staff : List ℕ) (set : ℕ) → set < 2 ^ 64 → set ≢ 0 → space ∷ setText staff set ≡ marked space betweenMembers (names staff set)
-some staff set h n = mark-joined space betweenMembers (names staff set) (some-names staff set h n)
+some : (numbers : List ℕ) (set : ℕ) → set < 2 ^ 64 → set ≢ 0 → space ∷ setText numbers set ≡ marked space betweenMembers (names numbers set)
+some numbers set h n = mark-joined space betweenMembers (names numbers set) (some-names numbers set h n)
 
 no-set-requires : tie.Need-no-set-requires
 no-set-requires c κs = search needs
@@ -31,7 +31,7 @@ returns : tie.Need-returns
 returns c =
     let p = c .before .before .before .before in
     let s = p .before .before in
-    read-as (sym (empty (s .args .staff .now) (s .args .set) (p .if1 .taken))) (c .before .before .no-set .ensures)
+    read-as (sym (empty (s .args .numbers .now) (s .args .set) (p .if1 .taken))) (c .before .before .no-set .ensures)
 
 same-length-2 : tie.Need-same-length-2
 same-length-2 c = search needs
@@ -40,7 +40,7 @@ returns-2 : tie.Need-returns-2
 returns-2 c =
     let p = c .before .before .before .before in
     let s = p .before .before in
-    read-as (sym (some (s .args .staff .now) (s .args .set) (s .fits .set .fits) (p .if1 .left))) (c .before .before .members .ensures)
+    read-as (sym (some (s .args .numbers .now) (s .args .set) (s .fits .set .fits) (p .if1 .left))) (c .before .before .members .ensures)
 
 pub one-set-spec : {M : Type 1} → statement M
 one-set-spec =

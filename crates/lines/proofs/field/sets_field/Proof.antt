@@ -13,7 +13,7 @@ use Rattle.lines.proofs.field.sets_field.Tie as tie
 
 -- the field by its verdict
 abbrev field : tie.Start → Verdict → List ℕ
-field s v = space ∷ setsText (s .args .staff .now) (s .args .reply) v
+field s v = space ∷ setsText (s .args .numbers .now) (s .args .reply) v
 
 enum-told : tie.Need-enum-told
 enum-told c = search needs
@@ -58,7 +58,7 @@ returns-3 : tie.Need-returns-3
 returns-3 c =
     let p = c .before .before .before .before in
     let a = p .before .before .args in
-    read-as (sym (ap (λ (l : List ℕ). space ∷ l) (no-sets (a .staff .now) (a .reply) (a .reply .verdict) (p .match .keys3)))) (c .before .before .no-set .ensures)
+    read-as (sym (ap (λ (l : List ℕ). space ∷ l) (no-sets (a .numbers .now) (a .reply) (a .reply .verdict) (p .match .keys3)))) (c .before .before .no-set .ensures)
 
 pub sets-field-spec : {M : Type 1} → statement M
 sets-field-spec =

@@ -4,6 +4,7 @@ use mathlib.Core.Path.{_≡_}
 use lib.ListN.{replicate}
 use Rattle.sets.specs.Arrays.{tabulate}
 use Rattle.roster.specs.declared.Policy.{Policy}
+use Rattle.book.specs.declared.Form.the-variants.{Old}
 use Rattle.book.specs.declared.Row.{Row}
 use Rattle.values.specs.Values.{nobody, unasked, noValues, valuesFor}
 use Rattle.values.specs.declared.Values.{Values}
@@ -13,8 +14,8 @@ use Rattle.values.proofs.Values.none.Tie as tie
 -- with nobody and nothing asked at every place
 nothing-there : (row : Row) (policy : Policy) → row ≡ nobody → policy ≡ unasked
     → _≡_ {A = Values}
-    (record { codes = replicate 32 0; «code_count» = 0; rows = replicate 64 row; «row_count» = 0; policies = replicate 32 policy; «policy_count» = 0 })
-    noValues
+    (record { form = Old; codes = replicate 32 0; «code_count» = 0; rows = replicate 64 row; «row_count» = 0; policies = replicate 32 policy; «policy_count» = 0 })
+    (noValues Old)
 unfolding valuesFor tabulate
 nothing-there row policy e h = rw (e, h)
 

@@ -4,7 +4,7 @@ use mathlib.Core.Path.{_≡_, sym, ap, _∙_}
 use mathlib.Core.List.{append-nil}
 use Prim.Native.Nat.{ℕ}
 use Rattle.roster.specs.declared.Policy.{Policy}
-use Rattle.book.specs.Layout.{littleEndian, fieldBytes, codeWidths, codeFields, rowWidths, rowFields, policyWidths, policyFields}
+use Rattle.book.specs.Layout.{littleEndian, fieldBytes, codeWidths, codeFields, rowWidths, rowFields, policyWidths, policyFields, hasPersons}
 use Rattle.book.specs.declared.Row.{Row}
 use Rattle.book.specs.declared.Section.{Section}
 use Rattle.text.specs.Laws.Appends.{read-as}
@@ -71,7 +71,7 @@ returns-2 c =
     let t = put .before .before .before in
     let a = t .before .before .before .args in
     read-as
-    (ap (λ (row : Row). fieldBytes rowWidths (rowFields row)) (put .before .row-in .ensures)
+    (ap (λ (row : Row). fieldBytes (rowWidths (hasPersons (a .values .form))) (rowFields (hasPersons (a .values .form)) row)) (put .before .row-in .ensures)
     ∙ ap (λ (s : Section). entryBytes (a .values) s (a .i)) (sym (t .enum-told2 .given .1)))
     (put .put-row .ensures)
 

@@ -1,0 +1,25 @@
+-- The loop ends: a turn for each that is left.
+use borrow.Author.Needs.{needs}
+use Prim.Native.Nat.{_≤_, _-_}
+use Rattle.trial.proofs.persons.Staff.persons_before.Statement.{statement}
+use Rattle.trial.proofs.persons.Staff.persons_before.Tie as tie
+
+abbrev Inv-loop : tie.InvT-loop
+Inv-loop self row n₀ u₀ n u = u ≤ 6
+
+abbrev μ-loop : tie.MeasureT-loop
+μ-loop self row n₀ u₀ n u = 6 - u
+
+pub persons-before-spec : {M : Type 1} → statement M
+persons-before-spec =
+    tie.close
+    (tie.spec
+    Inv-loop
+    μ-loop
+    (λ c. search needs)
+    (λ c κs. search needs)
+    (λ c κs. search needs)
+    (λ c. search needs)
+    (λ c. search needs)
+    (λ c. search needs)
+    (λ c. search needs))
