@@ -20,6 +20,10 @@ faultNumber Task = 18
 faultNumber (Policy refusal) = numberOf refusal
 faultNumber Excess = 19
 
+-- a number that a count or an entry is refused with once it is whole: one of 2 to 5 or of 12 to 18
+abbrev pub EntryNumber : ℕ → Type 0
+EntryNumber n = ((2 ≤ n) × (n ≤ 5)) ⊎ ((12 ≤ n) × (n ≤ 18))
+
 -- a number that a book is refused with: one of 2 to 5 or of 11 to 19. (1 and 6 are of questions: a fault can say them, no book has them.)
 abbrev pub BookNumber : ℕ → Type 0
 BookNumber n = ((2 ≤ n) × (n ≤ 5)) ⊎ ((11 ≤ n) × (n ≤ 19))

@@ -8,7 +8,7 @@
 -- "with place 0; then 20, the buffer is too short": in `Writes` itself; `numbers`, `never-short-never-excess`, `longest-enough`
 -- every input has one reply, and one buffer after it: `writes-allowed`, `writes-same`
 use mathlib.Core.Option.{Option, some, none}
-use mathlib.Core.Logic.{_⊎_}
+use mathlib.Core.Logic.{_⊎_, _≢_}
 use mathlib.Core.Bool.{Bool, true, false}
 use mathlib.Core.Path.{_≡_}
 use mathlib.Core.List.{List, [], _∷_, _++_}
@@ -20,6 +20,8 @@ use Rattle.roster.specs.declared.Refusal.the-variants as refusal
 use Rattle.book.specs.Layout.{Contents, hasPersons, bytesOf, Each}
 use Rattle.book.specs.Laws.Values.{RowFits}
 use Rattle.book.specs.Reading.{codes, rowsOf, policies, faultIf, pastListed}
+use Rattle.book.specs.Faults.{EntryNumber}
+use Rattle.book.specs.declared.Form.the-variants.{Old}
 use Rattle.book.specs.declared.Fault.{Fault}
 use Rattle.book.specs.declared.Fault.the-variants as fault
 use Rattle.book.specs.declared.Look.{Look}
@@ -51,6 +53,11 @@ Wide p = (256 ≤ p .away) ⊎ ((256 ≤ p .crews) ⊎ (256 ≤ p .size))
 pub record Laidable (v : Contents) : Type 0 where
   pub typed : Typed v
   pub narrow : Each Narrow (v .policies)
+
+-- the layout tells its form: it always does but for an old one of exactly 200 permissions, which no book has; 12 is told of those values all the same
+-- (`many-codes`)
+abbrev pub TellsForm : Contents → Type 0
+TellsForm v = v .form ≡ Old → length (v .codes) ≢ 200
 
 -- ---- the outcome of writing, computed; that it is the one that `Writes` allows is `writes-allowed`
 
@@ -84,10 +91,6 @@ looksTo v before p =
     ∷ (valueLooks policies listed none before
     ++ (faultIf (pastListed listed (p .task)) fault.Task (faultIf (eqb (p .task) 0) (fault.Policy refusal.Task) Sound) ∷ []))))
 
--- a number of a fault that is told of values: one of 2 to 5 or of 12 to 18
-abbrev pub FaultNumber : ℕ → Type 0
-FaultNumber n = ((2 ≤ n) × (n ≤ 5)) ⊎ ((12 ≤ n) × (n ≤ 18))
-
--- a number that values are refused with: one of these, or 20
+-- a number that values are refused with: that of a count or an entry, or 20
 abbrev pub WriterNumber : ℕ → Type 0
-WriterNumber n = FaultNumber n ⊎ (n ≡ 20)
+WriterNumber n = EntryNumber n ⊎ (n ≡ 20)

@@ -16,7 +16,7 @@ use Rattle.roster.specs.declared.Refusal.the-variants.{Task, Away, Crews, Size}
 use Rattle.roster.specs.declared.Ruling.{Ruling}
 use Rattle.roster.specs.declared.Ruling.the-variants.{Admitted}
 use Rattle.book.specs.Layout.{Each}
-use Rattle.book.specs.Faults.{faultNumber, BookNumber}
+use Rattle.book.specs.Faults.{faultNumber, EntryNumber, BookNumber}
 use Rattle.book.specs.Reading.{Kind, Found, faultIf, notAbove, pastListed, staffOf, rowLook, wholeThen, byMade, codes, rowsOf, policies, width, entryAt, prior, countLook, entryLook, inTurn, countAt, sectionLooks, past, formBy, formOf, front, listedIn, endLook, looksFromPolicies, looksFromRows, looks, readOf}
 use Rattle.book.specs.Promises.{AllSound}
 use Rattle.book.specs.Laws.First.{not-faulty}
@@ -28,65 +28,77 @@ use Rattle.book.specs.declared.Fault.{Fault}
 use Rattle.book.specs.declared.Fault.the-variants as fault
 use Rattle.book.specs.declared.Look.{Look}
 use Rattle.book.specs.declared.Look.the-variants.{Sound, Faulty}
+use Rattle.book.specs.declared.Form.{Form}
+use Rattle.book.specs.declared.Row.{Row}
 use Rattle.book.specs.declared.Before.{Before}
 use Rattle.book.specs.declared.Before.the-variants.{Nothing, Entry}
 use Rattle.book.specs.declared.Reading.the-variants as read
 
 -- ---- the number
 
--- what a look tells is a number of a book's
-abbrev Told : Look → Type 0
-Told Sound = Unit
-Told (Faulty f) = BookNumber (faultNumber f)
+-- what a look tells is such a number
+abbrev pub Told : (ℕ → Type 0) → Look → Type 0
+Told Is Sound = Unit
+Told Is (Faulty f) = Is (faultNumber f)
 
-told-if : (b : Bool) (f : Fault) (rest : Look) → BookNumber (faultNumber f) → Told rest → Told (faultIf b f rest)
-told-if true f rest n t = n
-told-if false f rest n t = t
+pub told-if : (Is : ℕ → Type 0) (b : Bool) (f : Fault) (rest : Look) → Is (faultNumber f) → Told Is rest → Told Is (faultIf b f rest)
+told-if Is true f rest n t = n
+told-if Is false f rest n t = t
 
-told-whole : (book : List ℕ) (at wide : ℕ) (rest : Look) → Told rest → Told (wholeThen book at wide rest)
-told-whole book at wide rest t = told-if (ltb (length book) (at + wide)) fault.Short rest (inr (omega arith, omega arith)) t
+-- what is told of an entry is told of a book
+told-of-book : (x : Look) → Told EntryNumber x → Told BookNumber x
+told-of-book Sound t = tt
+told-of-book (Faulty f) (inl l) = inl l
+told-of-book (Faulty f) (inr l) = inr (omega (arith, l .0), omega (arith, l .1))
+
+told-whole : (book : List ℕ) (at wide : ℕ) (rest : Look) → Told EntryNumber rest → Told BookNumber (wholeThen book at wide rest)
+told-whole book at wide rest t =
+    told-if BookNumber (ltb (length book) (at + wide)) fault.Short rest (inr (omega arith, omega arith)) (told-of-book rest t)
 
 -- of a policy by itself 2, 3, 4 or 5 is told: there are no rows to be too many, and no absence is named
-told-ruling : (P s d t : ℕ) (r : Ruling) (p : Policy) → policyRuling 0 P s d t ≡ r → Told (byMade (madeBy r p))
+told-ruling : (P s d t : ℕ) (r : Ruling) (p : Policy) → policyRuling 0 P s d t ≡ r → Told EntryNumber (byMade (madeBy r p))
 unfolding policyRuling
-told-ruling P s d t r p e = subst (λ (x : Ruling). Told (byMade (madeBy x p))) e (go (eqb P 0) (ltb awayLimit s) (outside crewLimit d) (outside sizeLimit t))
+told-ruling P s d t r p e = subst (λ (x : Ruling). Told EntryNumber (byMade (madeBy x p))) e (go (eqb P 0) (ltb awayLimit s) (outside crewLimit d) (outside sizeLimit t))
   where
-    go : (a b c f : Bool) → Told (byMade (madeBy (refusedIf a Task (refusedIf b Away (refusedIf c Crews (refusedIf f Size Admitted)))) p))
+    go : (a b c f : Bool) → Told EntryNumber (byMade (madeBy (refusedIf a Task (refusedIf b Away (refusedIf c Crews (refusedIf f Size Admitted)))) p))
     go true b c f = inl (omega arith, omega arith)
     go false true c f = inl (omega arith, omega arith)
     go false false true f = inl (omega arith, omega arith)
     go false false false true = inl (omega arith, omega arith)
     go false false false false = tt
 
-told-code : (listed : ℕ) (before : Option ℕ) (code : ℕ) → Told (codes .faults listed before code)
-told-code listed before code = told-if (notAbove before code) fault.Code Sound (inr (omega arith, omega arith)) tt
+pub told-code : (listed : ℕ) (before : Option ℕ) (code : ℕ) → Told EntryNumber (codes .faults listed before code)
+told-code listed before code = told-if EntryNumber (notAbove before code) fault.Code Sound (inr (omega arith, omega arith)) tt
 
-told-row : (low beyond : Bool) → Told (rowLook low beyond)
-told-row true true = inr (omega arith, omega arith)
-told-row true false = inr (omega arith, omega arith)
-told-row false true = inr (omega arith, omega arith)
-told-row false false = tt
+told-look : (low beyond : Bool) → Told EntryNumber (rowLook low beyond)
+told-look true true = inr (omega arith, omega arith)
+told-look true false = inr (omega arith, omega arith)
+told-look false true = inr (omega arith, omega arith)
+told-look false false = tt
 
-told-policy : (listed : ℕ) (before : Option Policy) (p : Policy) → Told (policies .faults listed before p)
+pub told-row : (form : Form) (listed : ℕ) (before : Option Row) (row : Row) → Told EntryNumber (rowsOf form .faults listed before row)
+told-row form listed before row = told-look (notAbove (staffOf before) (row .staff)) (pastListed listed (row .holdings))
+
+pub told-policy : (listed : ℕ) (before : Option Policy) (p : Policy) → Told EntryNumber (policies .faults listed before p)
 told-policy listed before p =
-    told-if (pastListed listed (p .task)) fault.Task (byMade (made p)) (inr (omega arith, omega arith)) (told-ruling _ _ _ _ (ownRuling p) p refl)
+    told-if EntryNumber (pastListed listed (p .task)) fault.Task (byMade (made p)) (inr (omega arith, omega arith)) (told-ruling _ _ _ _ (ownRuling p) p refl)
 
 abbrev AllTold : List Found → Type 0
-AllTold = Each (λ x. Told (x .look))
+AllTold = Each (λ x. Told BookNumber (x .look))
 
 all-append : (l m : List Found) → AllTold l → AllTold m → AllTold (l ++ m)
 unfolding Each
 all-append [] m a b = b
 all-append (x ∷ l) m a b = (a .0, all-append l m (a .1) b)
 
-told-in : (l m : List Found) (x : Found) → AllTold (l ++ (x ∷ m)) → Told (x .look)
+told-in : (l m : List Found) (x : Found) → AllTold (l ++ (x ∷ m)) → Told BookNumber (x .look)
 unfolding Each
 told-in [] m x t = t .0
 told-in (y ∷ l) m x t = told-in l m x (t .1)
 
-module _ {A : Type 0} (kind : Kind A) (count : BookNumber (faultNumber (kind .countFault)))
-    (entry : (listed : ℕ) (before : Option A) (x : A) → Told (kind .faults listed before x)) (book : List ℕ) (listed : ℕ) where
-  entry-told : (before : Before) (at : ℕ) → Told (entryLook kind book listed before at)
+module _ {A : Type 0} (kind : Kind A) (count : EntryNumber (faultNumber (kind .countFault)))
+    (entry : (listed : ℕ) (before : Option A) (x : A) → Told EntryNumber (kind .faults listed before x)) (book : List ℕ) (listed : ℕ) where
+  entry-told : (before : Before) (at : ℕ) → Told BookNumber (entryLook kind book listed before at)
   unfolding entryLook
   entry-told before at =
       told-whole book at (width kind) (kind .faults listed (prior (entryAt kind book) before) (entryAt kind book at))
@@ -101,7 +113,7 @@ module _ {A : Type 0} (kind : Kind A) (count : BookNumber (faultNumber (kind .co
   unfolding Each sectionLooks countLook
   section-told at =
       let out = kind .outOfRange (countAt book at) in
-      (told-whole book at 1 (faultIf out (kind .countFault) Sound) (told-if out (kind .countFault) Sound count tt), in-turn-told Nothing (at + 1) (countAt book at))
+      (told-whole book at 1 (faultIf out (kind .countFault) Sound) (told-if EntryNumber out (kind .countFault) Sound count tt), in-turn-told Nothing (at + 1) (countAt book at))
 
 looks-told : (book : List ℕ) → AllTold (looks book)
 unfolding Each
@@ -113,10 +125,10 @@ looks-told book =
     let end = past policies book third in
     all-append (sectionLooks codes book 0 (front form)) (looksFromRows form book second) (section-told codes (inr (omega arith, omega arith)) told-code book 0 (front form))
     (all-append (sectionLooks (rowsOf form) book n second) (looksFromPolicies form book third)
-    (section-told (rowsOf form) (inr (omega arith, omega arith)) (λ listed before row. told-row (notAbove (staffOf before) (row .staff)) (pastListed listed (row .holdings))) book n second)
+    (section-told (rowsOf form) (inr (omega arith, omega arith)) (told-row form) book n second)
     (all-append (sectionLooks policies book n third) (endLook book end ∷ [])
     (section-told policies (inr (omega arith, omega arith)) told-policy book n third)
-    (told-if (ltb end (length book)) fault.Excess Sound (inr (omega arith, omega arith)) tt, tt)))
+    (told-if BookNumber (ltb end (length book)) fault.Excess Sound (inr (omega arith, omega arith)) tt, tt)))
 
 -- a refused book's number is one of 2 to 5 or of 11 to 19
 pub refused-number : (book : List ℕ) (f : Fault) (at : ℕ) → readOf book ≡ read.Refused f at → BookNumber (faultNumber f)

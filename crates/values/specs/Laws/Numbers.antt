@@ -2,69 +2,31 @@
 -- soon or goes on too long, never come. Assumes nothing.
 use mathlib.Core.Path.{_≡_, sym, ap, subst}
 use mathlib.Core.Logic.{inl, inr}
-use mathlib.Core.Bool.{Bool, true, false}
 use mathlib.Core.Option.{Option, some, none}
 use mathlib.Core.List.{List, [], _∷_, _++_}
 use Prim.Native.Nat.{ℕ}
 use native.Mathlib.Omega.{arith}
-use lib.Dec.{eqb}
 use lib.ListN.{length}
-use Rattle.roster.specs.Refusals.{ownRuling, madeBy, made, numberOf}
-use Rattle.roster.specs.declared.Policy.{Policy}
-use Rattle.roster.specs.declared.Ruling.{Ruling}
-use Rattle.roster.specs.declared.Ruling.the-variants as ruling
 use Rattle.book.specs.Layout.{Contents}
-use Rattle.book.specs.Faults.{faultNumber}
-use Rattle.book.specs.Reading.{Kind, faultIf, notAbove, pastListed, staffOf, byMade, codes, rowsOf, policies}
+use Rattle.book.specs.Faults.{faultNumber, EntryNumber}
+use Rattle.book.specs.Reading.{Kind, faultIf, codes, rowsOf, policies}
+use Rattle.book.specs.Laws.Refused.{Told, told-if, told-code, told-row, told-policy}
 use Rattle.book.specs.declared.Fault.{Fault}
-use Rattle.book.specs.declared.Fault.the-variants as fault
 use Rattle.book.specs.declared.Look.{Look}
 use Rattle.book.specs.declared.Look.the-variants.{Sound, Faulty}
-use Rattle.book.specs.declared.Form.{Form}
-use Rattle.book.specs.declared.Row.{Row}
 use Rattle.values.specs.Writing.{unwrittenNumber, valueLooks, sectionIn, firstOf, faultIn, Writes}
-use Rattle.values.specs.Promises.{FaultNumber, WriterNumber}
+use Rattle.values.specs.Promises.{WriterNumber}
 use Rattle.values.specs.Laws.First.{orElse, first-append}
 use Rattle.values.specs.Laws.Outcome.{Which, which}
-use Rattle.values.specs.Laws.Policies.{MayRule, own-ruling}
 use Rattle.values.specs.declared.Unwritten.{Unwritten}
 use Rattle.values.specs.declared.Unwritten.the-variants as unwritten
 use Rattle.values.specs.declared.Wrote.the-variants.{Refused}
-
--- ---- of what is looked at
-
--- a look that tells a fault tells one of these numbers
-abbrev Told : Look → Type 0
-Told Sound = Unit
-Told (Faulty f) = FaultNumber (faultNumber f)
-
-told-if : (b : Bool) (f : Fault) (rest : Look) → FaultNumber (faultNumber f) → Told rest → Told (faultIf b f rest)
-told-if true f rest n t = n
-told-if false f rest n t = t
-
-told-code : (listed : ℕ) (before : Option ℕ) (code : ℕ) → Told (codes .faults listed before code)
-told-code listed before code = told-if (notAbove before code) fault.Code Sound (inr (omega arith, omega arith)) tt
-
-told-row : (form : Form) (listed : ℕ) (before : Option Row) (row : Row) → Told (rowsOf form .faults listed before row)
-told-row form listed before row =
-    told-if (notAbove (staffOf before) (row .staff)) fault.Staff _ (inr (omega arith, omega arith))
-    (told-if (pastListed listed (row .holdings)) fault.Holdings Sound (inr (omega arith, omega arith)) tt)
-
-told-ruling : (zeroTask : Bool) (r : Ruling) (p : Policy) → MayRule zeroTask r → Told (byMade (madeBy r p))
-told-ruling zeroTask ruling.Admitted p m = tt
-told-ruling true (ruling.Refused refusal) p m = let two : numberOf refusal ≡ 2 = ap numberOf m in inl (omega arith, omega arith)
-told-ruling false (ruling.Refused refusal) p m = inl (omega (arith, m .0), m .1)
-
-told-policy : (listed : ℕ) (before : Option Policy) (p : Policy) → Told (policies .faults listed before p)
-told-policy listed before p =
-    told-if (pastListed listed (p .task)) fault.Task (byMade (made p)) (inr (omega arith, omega arith))
-    (told-ruling (eqb (p .task) 0) (ownRuling p) p (own-ruling p))
 
 -- ---- of the first fault
 
 abbrev ToldIn : Option Fault → Type 0
 ToldIn none = Unit
-ToldIn (some f) = FaultNumber (faultNumber f)
+ToldIn (some f) = EntryNumber (faultNumber f)
 
 told-or : (a b : Option Fault) → ToldIn a → ToldIn b → ToldIn (orElse a b)
 told-or none b s t = t
@@ -73,13 +35,13 @@ told-or (some f) b s t = s
 told-append : (l m : List Look) → ToldIn (firstOf l) → ToldIn (firstOf m) → ToldIn (firstOf (l ++ m))
 told-append l m s t = subst ToldIn (sym (first-append l m)) (told-or (firstOf l) (firstOf m) s t)
 
-told-head : (x : Look) (l : List Look) → Told x → ToldIn (firstOf l) → ToldIn (firstOf (x ∷ l))
+told-head : (x : Look) (l : List Look) → Told EntryNumber x → ToldIn (firstOf l) → ToldIn (firstOf (x ∷ l))
 unfolding firstOf
 told-head Sound l s t = t
 told-head (Faulty f) l s t = s
 
-module _ {A : Type 0} (kind : Kind A) (count : FaultNumber (faultNumber (kind .countFault)))
-    (entry : (listed : ℕ) (before : Option A) (x : A) → Told (kind .faults listed before x)) (listed : ℕ) where
+module _ {A : Type 0} (kind : Kind A) (count : EntryNumber (faultNumber (kind .countFault)))
+    (entry : (listed : ℕ) (before : Option A) (x : A) → Told EntryNumber (kind .faults listed before x)) (listed : ℕ) where
   values-told : (before : Option A) (l : List A) → ToldIn (firstOf (valueLooks kind listed before l))
   unfolding valueLooks firstOf
   values-told before [] = tt
@@ -89,10 +51,10 @@ module _ {A : Type 0} (kind : Kind A) (count : FaultNumber (faultNumber (kind .c
   section-told : (l : List A) → ToldIn (firstOf (sectionIn kind listed l))
   section-told l =
       told-head (faultIf (kind .outOfRange (length l)) (kind .countFault) Sound) (valueLooks kind listed none l)
-      (told-if (kind .outOfRange (length l)) (kind .countFault) Sound count tt) (values-told none l)
+      (told-if EntryNumber (kind .outOfRange (length l)) (kind .countFault) Sound count tt) (values-told none l)
 
 -- a fault of values is told by one of 2 to 5 or of 12 to 18
-pub fault-number : (v : Contents) (f : Fault) → faultIn v ≡ some f → FaultNumber (faultNumber f)
+pub fault-number : (v : Contents) (f : Fault) → faultIn v ≡ some f → EntryNumber (faultNumber f)
 fault-number v f e =
     let listed = length (v .codes) in
     subst ToldIn e

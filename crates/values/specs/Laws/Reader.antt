@@ -2,7 +2,6 @@
 -- the fault is the same. Assumes nothing.
 use mathlib.Core.Path.{_≡_, refl, sym, ap, _∙_}
 use mathlib.Core.Bool.{Bool, false}
-use mathlib.Core.Logic.{_≢_}
 use mathlib.Core.Option.{none, some}
 use mathlib.Core.List.{List, [], _∷_, _++_, map, append-assoc, append-nil}
 use Prim.Native.Nat.{ℕ, _+_, _*_, _^_, _≤_, _<_}
@@ -19,7 +18,6 @@ use Rattle.book.specs.Laws.Sections.{Codec, bytesFor, Fits, joined-length, sect
 use Rattle.book.specs.Laws.Values.{code-codec, row-codec, policy-codec, each, each-both, code-fits, row-fits}
 use Rattle.book.specs.Laws.Books.{rowsAt, policiesAt, by-lead, lead-front}
 use Rattle.book.specs.declared.Form.{Form}
-use Rattle.book.specs.declared.Form.the-variants.{Old}
 use Rattle.book.specs.declared.Fault.the-variants as fault
 use Rattle.book.specs.declared.Look.{Look}
 use Rattle.book.specs.declared.Look.the-variants.{Sound, Faulty}
@@ -28,7 +26,7 @@ use Rattle.book.specs.declared.Before.the-variants.{Nothing, Entry}
 use Rattle.book.specs.declared.Reading.{Reading}
 use Rattle.book.specs.declared.Reading.the-variants as read
 use Rattle.values.specs.Writing.{valueLooks, sectionIn, looksIn, firstOf, faultIn}
-use Rattle.values.specs.Promises.{Narrow, Laidable, faultOf}
+use Rattle.values.specs.Promises.{Narrow, Laidable, faultOf, TellsForm}
 
 -- the looks without their places
 abbrev pub look : Found → Look
@@ -141,11 +139,7 @@ fault-by good g (x ∷ l) = go (x .look) (fault-by good g l)
 
 -- ---- the form
 
--- the layout tells the form, but for an old one of exactly 200 permissions, which is no book: 12 is told of it (`many-codes`)
-abbrev pub Tells : Contents → Type 0
-Tells v = v .form ≡ Old → length (v .codes) ≢ 200
-
-form-told : (v : Contents) → Tells v → formOf (bytesOf v) ≡ v .form
+form-told : (v : Contents) → TellsForm v → formOf (bytesOf v) ≡ v .form
 unfolding formOf bytesOf
 form-told v n = by-lead (v .form) (length (v .codes)) _ n
 
@@ -156,7 +150,7 @@ many-codes v many =
     rw (some-codes, lt-ltb permissionLimit (length (v .codes)) many)
 
 -- "12 to 18 and 2 to 5 as in the reader, in reading order": the first fault of the values is the one that the reader finds in their layout
-pub as-in-the-reader : (v : Contents) → Laidable v → Tells v → faultOf (readOf (bytesOf v)) ≡ faultIn v
+pub as-in-the-reader : (v : Contents) → Laidable v → TellsForm v → faultOf (readOf (bytesOf v)) ≡ faultIn v
 unfolding readOf
 as-in-the-reader v f n =
     let book = bytesOf v in
