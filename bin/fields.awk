@@ -124,7 +124,7 @@ function hex(from, n,    i, text) {
 }
 
 # At most `limit` bytes are looked at: behind so many there may be more.
-function how_many(n) { return n (n == 1 ? " byte" : " bytes") (size < limit ? "" : " or more") }
+function how_many(n) { return (size < limit ? "" : "at least ") n (n == 1 ? " byte" : " bytes") }
 
 # The codes of a mask's permissions; bits past the listed ones are counted.
 function codes_in(mask,    i, text, past) {
@@ -152,7 +152,7 @@ function meaning(    k, want) {
 
 function ended(k) {
     if (have[k] == 0) return "the book ends where " subject(k) " should begin"
-    return "the book ends within " subject(k) ": " have[k] " of " bytes[k] " bytes are there"
+    return "the book ends within " subject(k) ", after " have[k] " of its " bytes[k] " bytes"
 }
 
 function subject(k) { return (kind[k] in called ? called[kind[k]] : name[k]) (of[k] == "" ? "" : " of " of[k]) }
