@@ -13,13 +13,15 @@ BEGIN {
     rule(3, "s", "at most 64 may be away")
     rule(4, "d", "there have to be 1 to 8 crews")
     rule(5, "t", "a crew has to be of 1 to 64")
+    rule(11, "", "the book ends before this is whole")
     rule(12, "permissions", "it has to be 1 to 32")
     rule(13, "code", "it has to be above the code before it, BEFORE")
     rule(14, "rows", "it has to be at most 64")
     rule(15, "staff", "it has to be above the staff number before it, BEFORE")
-    rule(16, "holdings", "that is past the listed permissions, which allow at most ALLOWED")
+    rule(16, "holdings", "the listed permissions allow at most ALLOWED")
     rule(17, "policies", "it has to be at most 32")
-    rule(18, "task", "that is past the listed permissions, which allow at most ALLOWED")
+    rule(18, "task", "the listed permissions allow at most ALLOWED")
+    rule(19, "more", "the book has to end here")
 
     called["permissions"] = "the number of permissions"
     called["rows"] = "the number of rows"
@@ -44,7 +46,7 @@ END {
     at = fields = listed = 0
     walk()
     if (!words) show()
-    else if (refused) print number " at byte " fault ": " meaning()
+    else if (refused) print number " at byte " fault ": " meaning(concerned())
 }
 
 function rule(n, kind, want) { speaks[n] = kind; wanted[n] = want }
@@ -137,20 +139,27 @@ function codes_in(mask,    i, text, past) {
     return text == "" ? "none" : text
 }
 
-# What the verdict means: of the first field from its place on that the rule speaks of.
-function meaning(    k, want) {
-    for (k = 0; k < fields && place[k] < fault; k++) { }
-    if (number == 11) return ended(fields - 1)
-    if (number == 19 && k < fields) return "the book has to end here, after its policies, but has " how_many(have[k]) " more"
-    while (k < fields && kind[k] != speaks[number]) k++
-    if (k == fields || !(number in wanted)) return "the book breaks this rule"
-    want = wanted[number]
-    sub(/BEFORE/, before[k], want)
-    sub(/ALLOWED/, sprintf("%.0f", 2 ^ listed - 1), want)
-    return subject(k) (kind[k] == "holdings" ? " are " : " is ") shown[k] ": " want
+# The field that the verdict speaks of: for 11 the last that there is, else the first from its place on that its rule is about.
+function concerned(    k) {
+    if (number == 11) return fields - 1
+    for (k = 0; k < fields && (place[k] < fault || kind[k] != speaks[number]); k++) { }
+    return k
 }
 
-function ended(k) {
+# What the rule wants of that field, for one who sees it.
+function want(k,    text) {
+    if (!(number in wanted) || k == fields) return "the book breaks this rule"
+    text = wanted[number]
+    sub(/BEFORE/, before[k], text)
+    sub(/ALLOWED/, sprintf("%.0f", 2 ^ listed - 1), text)
+    return text
+}
+
+# The same for one who does not.
+function meaning(k) {
+    if (!(number in wanted) || k == fields) return want(k)
+    if (number == 19) return want(k) ", after its policies, but has " how_many(have[k]) " more"
+    if (number != 11) return subject(k) (kind[k] == "holdings" ? " are " : " is ") shown[k] ": " want(k)
     if (have[k] == 0) return "the book ends where " subject(k) " should begin"
     return "the book ends within " subject(k) ", after " have[k] " of its " bytes[k] " bytes"
 }
@@ -165,7 +174,7 @@ function show(    k, line) {
         if (wide[2] > 0) line = line "  " sprintf("%-" wide[2] "s", head[k])
         line = line "  " sprintf("%-" wide[3] "s", name[k]) "  " sprintf("%" wide[4] "s", shown[k])
         if (note[k] != "") line = line "  (" note[k] ")"
-        if (refused && place[k] == fault) line = line "  <- bad " number ": " meaning()
+        if (refused && place[k] == fault) line = line "  <- bad " number ": " want(concerned())
         print line
     }
 }
