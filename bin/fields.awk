@@ -18,9 +18,9 @@ BEGIN {
     rule(13, "code", "it has to be above the code before it, BEFORE")
     rule(14, "rows", "it has to be at most 64")
     rule(15, "staff", "it has to be above the staff number before it, BEFORE")
-    rule(16, "holdings", "the listed permissions allow at most ALLOWED")
+    rule(16, "holdings", "the listed permissions go up to ALLOWED")
     rule(17, "policies", "it has to be at most 32")
-    rule(18, "task", "the listed permissions allow at most ALLOWED")
+    rule(18, "task", "the listed permissions go up to ALLOWED")
     rule(19, "more", "the book has to end here")
 
     called["permissions"] = "the number of permissions"
