@@ -12,7 +12,7 @@ BEGIN {
     rule(2, "task", "it has to ask for a permission")
     rule(3, "s", "at most 64 may be away")
     rule(4, "d", "there have to be 1 to 8 crews")
-    rule(5, "t", "a crew has to be of 1 to 64")
+    rule(5, "t", "the size of a crew has to be 1 to 64")
     rule(11, "", "the book ends before this is whole")
     rule(12, "permissions", "it has to be 1 to 32")
     rule(13, "code", "it has to be above the code before it, BEFORE")
