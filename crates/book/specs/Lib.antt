@@ -11,4 +11,4 @@ pub mod Cases
 -- the theorems
 pub mod Laws
 -- what the reader's own functions answer
-pub mod Steps
+pub mod Inner

@@ -10,7 +10,7 @@ use Rattle.roster.specs.Limits.{rowLimit}
 use Rattle.roster.specs.declared.Policy.{Policy}
 use Rattle.book.specs.Layout.{permissionLimit, policyLimit}
 use Rattle.book.specs.Reading.{Kind, notAbove, codes, rowsOf, policies}
-use Rattle.book.specs.Steps.{countLookIn}
+use Rattle.book.specs.Inner.Steps.{countLookIn}
 use Rattle.book.specs.declared.Fault.{Fault}
 use Rattle.book.specs.declared.Look.{Look}
 use Rattle.book.specs.declared.Look.the-variants.{Sound, Faulty}

@@ -4,7 +4,7 @@ use mathlib.Core.Path.{_≡_, refl, sym, ap, _∙_}
 use mathlib.Core.List.{List}
 use Prim.Native.Nat.{ℕ, _-_}
 use native.Mathlib.Omega.{arith}
-use Rattle.book.specs.Steps.{lookIn, widthIn, stepFrom, startAt, pastEntry}
+use Rattle.book.specs.Inner.Steps.{lookIn, widthIn, stepFrom, startAt, pastEntry}
 use Rattle.book.specs.declared.Form.{Form}
 use Rattle.book.specs.declared.Section.{Section}
 use Rattle.book.specs.declared.Cursor.{Cursor}

@@ -3,7 +3,7 @@ use borrow.Author.Needs.{needs}
 use mathlib.Core.Path.{sym, ap, _∙_}
 use Prim.Native.Nat.{_+_}
 use native.Mathlib.Omega.{arith}
-use Rattle.book.specs.Steps.{lookIn, widthIn, stepFrom, startAt}
+use Rattle.book.specs.Inner.Steps.{lookIn, widthIn, stepFrom, startAt}
 use Rattle.book.proofs.Looks.{whole-count, section-faulty, section-sound}
 use Rattle.book.proofs.sections.section_step.Statement.{statement}
 use Rattle.book.proofs.sections.section_step.Tie as tie
