@@ -18,3 +18,7 @@ near form Policies i h = omega arith
 pub row-wide : (form : Form) → 8 ≤ width (rowsOf form)
 row-wide Old = omega arith
 row-wide Persons = omega arith
+
+pub row-narrow : (form : Form) → width (rowsOf form) ≤ 12
+row-narrow Old = omega arith
+row-narrow Persons = omega arith

@@ -15,6 +15,7 @@ use roster::Made;
 use roster::Policy;
 use roster::Refusal;
 ghost use mathlib.Core.Path.{_≡_};
+ghost use mathlib.Core.Bool.{true};
 ghost use Prim.Native.Nat.{_+_, _<_, _^_};
 ghost use lib.Dec.{ltb};
 ghost use lib.ListN.{length, getD};
@@ -221,23 +222,18 @@ pub fn row_amiss(form: Form, low: bool, beyond: bool) -> Amiss
     Amiss::Nothing
 }
 
-// Where the first field of a row starts that a book which ends in this row does not have whole.
-fn cut_row(book: &[u8], form: Form, at: usize) -> usize
-    requires { ⌜ length (now book) < at + width (rowsOf form) ⌝ }
-    ensures { λ r. ⌜ r ≡ cutPlace (rowWidths (hasPersons form)) (length (now (book .entry))) at ⌝ }
+// Where the first field of a row starts that a book which ends in this row does not have whole. Each field of a row is four bytes.
+fn cut_row(book: &[u8], at: usize) -> usize
+    requires { ⌜ length (now book) < at + 12 ⌝ }
+    ensures { λ r. ⌜ r ≡ cutPlace (rowWidths true) (length (now (book .entry))) at ⌝ }
 {
     if cut(book, at, 4) {
         return at;
     }
-    match form {
-        Form::Old => at + 4,
-        Form::Persons => {
-            if cut(book, at + 4, 4) {
-                return at + 4;
-            }
-            at + 8
-        }
+    if cut(book, at + 4, 4) {
+        return at + 4;
     }
+    at + 8
 }
 
 // The row whose fields stand here. An old one has no person number: its staff number stands for it.
@@ -267,7 +263,7 @@ fn look_row(book: &[u8], form: Form, listed: usize, cursor: Cursor) -> Look
 {
     let at = cursor.at;
     if cut(book, at, row_width(form)) {
-        return Look::Faulty(Fault::Short, cut_row(book, form, at));
+        return Look::Faulty(Fault::Short, cut_row(book, at));
     }
     let row = row_from(book, form, at);
     match row_amiss(
@@ -308,10 +304,12 @@ pub fn policy_field(refusal: Refusal) -> usize
     ensures { λ r. ⌜ r ≡ fieldOf refusal ⌝ }
 {
     match refusal {
+        Refusal::Rows => 0,
+        Refusal::Task => 0,
         Refusal::Away => 1,
         Refusal::Crews => 2,
         Refusal::Size => 3,
-        _ => 0,
+        Refusal::Absence => 0,
     }
 }
 
@@ -319,11 +317,14 @@ pub fn policy_field(refusal: Refusal) -> usize
 fn policy_offset(refusal: Refusal) -> usize
     ensures { λ r. ⌜ r ≡ fieldPlace policyWidths 0 (fieldOf refusal) ⌝ }
 {
-    let field = policy_field(refusal);
-    if field == 0 {
-        return 0;
+    match refusal {
+        Refusal::Rows => 0,
+        Refusal::Task => 0,
+        Refusal::Away => 4,
+        Refusal::Crews => 5,
+        Refusal::Size => 6,
+        Refusal::Absence => 0,
     }
-    3 + field
 }
 
 // A policy.

@@ -34,7 +34,7 @@ returns : tie.Need-returns
 returns c =
     let l = c .before .before .before in
     let a = l .before .before .args in
-    sym (section-faulty (a .form) (a .section) (a .book .now) (a .listed) (a .at) _ (sym (l .look-count .ensures) ∙ c .before .fault .given .1))
+    sym (section-faulty (a .form) (a .section) (a .book .now) (a .listed) (a .at) _ _ (sym (l .look-count .ensures) ∙ c .before .fault .given .1))
 
 returns-2 : tie.Need-returns-2
 returns-2 c =
