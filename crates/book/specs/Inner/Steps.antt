@@ -4,15 +4,18 @@ use mathlib.Core.Bool.{Bool}
 use mathlib.Core.List.{List}
 use Prim.Native.Nat.{ℕ, _+_, _*_}
 use lib.Dec.{ltb}
+use lib.ListN.{length}
 use Rattle.roster.specs.Limits.{rowLimit}
 use Rattle.roster.specs.Refusals.{made}
 use Rattle.roster.specs.declared.Made.{Made}
-use Rattle.book.specs.Reading.{number, Found, notAbove, prior, codes, rowsOf, policies, width, entryAt, faultIf, wholeThen, countAt, entryLook, inTurn, sectionLooks, past, front, looksFromPolicies, looksFromRows, firstFault}
+use Rattle.book.specs.Reading.{number, notAbove, prior, codes, rowsOf, policies, width, entryAt, amissIf, faultIf, countAt, entryLook, inTurn, sectionLooks, past, front, looksFromPolicies, looksFromRows, firstFault}
 use Rattle.book.specs.declared.Form.{Form}
 use Rattle.book.specs.declared.Section.{Section}
 use Rattle.book.specs.declared.Section.the-variants.{Permissions, Rows, Policies}
 use Rattle.book.specs.declared.Fault.{Fault}
 use Rattle.book.specs.declared.Fault.the-variants as fault
+use Rattle.book.specs.declared.Amiss.{Amiss}
+use Rattle.book.specs.declared.Amiss.the-variants as amiss
 use Rattle.book.specs.declared.Look.{Look}
 use Rattle.book.specs.declared.Look.the-variants.{Sound}
 use Rattle.book.specs.declared.Before.{Before}
@@ -50,12 +53,15 @@ countFaultIn Permissions = codes .countFault
 countFaultIn Rows = fault.Rows
 countFaultIn Policies = policies .countFault
 
--- a count that is whole, and one of the book
-abbrev pub countLookIn : Section → ℕ → Look
-countLookIn section count = faultIf (outIn section count) (countFaultIn section) Sound
+-- a count by itself, and one of the book
+abbrev pub countAmissIn : Section → ℕ → Amiss
+countAmissIn section count = amissIf (outIn section count) (countFaultIn section) 0 amiss.Nothing
 
 abbrev pub countIn : Section → List ℕ → ℕ → Look
-countIn section book at = wholeThen book at 1 (countLookIn section (countAt book at))
+countIn section book at =
+    faultIf (ltb (length book) (at + 1)) fault.Short at
+    (faultIf (outIn section (countAt book at)) (countFaultIn section) at
+    Sound)
 
 -- what the policy makes that stands here
 abbrev pub madeAt : List ℕ → ℕ → Made
@@ -79,7 +85,7 @@ abbrev pub startAt : ℕ → Cursor
 startAt at = record { before = Nothing; at = at }
 
 -- a whole section
-abbrev pub looksIn : Form → Section → List ℕ → ℕ → ℕ → List Found
+abbrev pub looksIn : Form → Section → List ℕ → ℕ → ℕ → List Look
 looksIn form Permissions = sectionLooks codes
 looksIn form Rows = sectionLooks (rowsOf form)
 looksIn form Policies = sectionLooks policies
