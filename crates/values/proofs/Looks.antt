@@ -14,7 +14,7 @@ use Rattle.sets.specs.Arrays.{tabulate}
 use Rattle.sets.specs.Laws.Arrays.{length-tabulate}
 use Rattle.roster.specs.Laws.Rulings.{inside}
 use Rattle.book.specs.Reading.{Kind, codes, rowsOf, policies, faultIf, notAbove, staffOf}
-use Rattle.book.specs.Steps.{countLookIn}
+use Rattle.book.specs.Inner.Steps.{countLookIn}
 use Rattle.book.specs.Laws.First.{not-faulty}
 use Rattle.book.specs.declared.Form.{Form}
 use Rattle.book.specs.declared.Form.the-variants.{Old, Persons}

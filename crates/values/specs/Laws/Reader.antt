@@ -12,13 +12,15 @@ use lib.Dec.{eqb}
 use borrow.Author.Tests.{le-ltb, lt-ltb, ne-eqb}
 use Rattle.roster.specs.declared.Policy.{Policy}
 use Rattle.book.specs.Layout.{Contents, Each, bytesOf, section, joined, codeWidths, codeFields, rowWidths, rowFields, policyWidths, policyFields, hasPersons, lead, permissionLimit}
-use Rattle.book.specs.Reading.{Kind, Found, faultIf, width, entryAt, prior, countLook, entryLook, inTurn, sectionLooks, past, formOf, front, listedIn, endLook, looks, looksBy, looksFromRows, looksFromPolicies, codes, rowsOf, policies, firstFault, startsOf, readOf}
+use Rattle.book.specs.Reading.{Kind, amissIf, faultIf, placed, width, entryAt, prior, countLook, entryLook, inTurn, sectionLooks, past, formOf, front, listedIn, endLook, looks, looksBy, looksFromRows, looksFromPolicies, codes, rowsOf, policies, firstFault, startsOf, readOf}
 use Rattle.book.specs.Laws.Codec.{Fit, after, head-at, tail-at, fields-length, fields-read}
 use Rattle.book.specs.Laws.Sections.{Codec, bytesFor, Fits, joined-length, section-read}
 use Rattle.book.specs.Laws.Values.{code-codec, row-codec, policy-codec, each, each-both, code-fits, row-fits}
 use Rattle.book.specs.Laws.Books.{rowsAt, policiesAt, by-lead, lead-front}
 use Rattle.book.specs.declared.Form.{Form}
 use Rattle.book.specs.declared.Fault.the-variants as fault
+use Rattle.book.specs.declared.Amiss.{Amiss}
+use Rattle.book.specs.declared.Amiss.the-variants as amiss
 use Rattle.book.specs.declared.Look.{Look}
 use Rattle.book.specs.declared.Look.the-variants.{Sound, Faulty}
 use Rattle.book.specs.declared.Before.{Before}
@@ -28,9 +30,23 @@ use Rattle.book.specs.declared.Reading.the-variants as read
 use Rattle.values.specs.Writing.{valueLooks, sectionIn, looksIn, firstOf, faultIn}
 use Rattle.values.specs.Promises.{Narrow, Laidable, faultOf, TellsForm}
 
--- the looks without their places
-abbrev pub look : Found → Look
-look x = x .look
+-- the fault of a look, without its place, and of what is amiss, without its field
+abbrev seen : Look → Option Fault
+seen Sound = none
+seen (Faulty f at) = some f
+
+abbrev faultFrom : Amiss → Option Fault
+faultFrom amiss.Nothing = none
+faultFrom (amiss.Field f k) = some f
+
+-- it is the same once it is placed
+seen-placed : (ws : List ℕ) (at : ℕ) (x : Amiss) → seen (placed ws at x) ≡ faultFrom x
+seen-placed ws at amiss.Nothing = refl
+seen-placed ws at (amiss.Field f k) = refl
+
+seen-count : (b : Bool) (f : Fault) (at : ℕ) → seen (faultIf b f at Sound) ≡ faultFrom (amissIf b f 0 amiss.Nothing)
+seen-count true f at = refl
+seen-count false f at = refl
 
 -- ---- values that have a layout fit their fields
 

@@ -3,7 +3,7 @@ use borrow.Author.Needs.{needs}
 use mathlib.Core.Path.{_≡_, sym, ap, _∙_}
 use Prim.Native.Nat.{_≤_}
 use native.Mathlib.Omega.{arith}
-use Rattle.book.specs.Steps.{countLookIn}
+use Rattle.book.specs.Inner.Steps.{countLookIn}
 use Rattle.book.specs.declared.Look.the-variants.{Sound}
 use Rattle.values.specs.Inner.Looks.{limitIn, countOf, entryLooks, told}
 use Rattle.values.proofs.Looks.{first-faulty, first-sound, count-told, count-within}
