@@ -11,7 +11,7 @@ use borrow.Author.Tests.{ltb-true, lt-ltb, le-ltb}
 use Rattle.roster.specs.declared.Refusal.{Refusal}
 use Rattle.roster.specs.declared.Refusal.the-variants as refusal
 use Rattle.book.specs.Layout.{rowWidths, policyWidths, hasPersons}
-use Rattle.book.specs.Reading.{fieldPlace, cutPlace, amissIf, faultIf, rowAmiss, fieldOf, rowsOf, width}
+use Rattle.book.specs.Reading.{fieldPlace, cutPlace, amissIf, faultIf, rowAmiss, holdingsField, fieldOf, rowsOf, width}
 use Rattle.book.specs.declared.Form.{Form}
 use Rattle.book.specs.declared.Form.the-variants.{Old, Persons}
 use Rattle.book.specs.declared.Fault.{Fault}
@@ -62,8 +62,8 @@ pub row-field : (persons low beyond : Bool) (at : ℕ) {f : Fault} {k : ℕ} →
     → (k ≤ 2) × (at + 4 * k ≡ fieldPlace (rowWidths persons) at k)
 row-field false true beyond at {k = k} e = let same : k ≡ 0 = cc in rw same (omega arith, omega arith)
 row-field true true beyond at {k = k} e = let same : k ≡ 0 = cc in rw same (omega arith, omega arith)
-row-field false false true at {k = k} e = let same : k ≡ 1 = cc in rw same (omega arith, omega arith)
-row-field true false true at {k = k} e = let same : k ≡ 2 = cc in rw same (omega arith, omega arith)
+row-field false false true at {k = k} e = let same : k ≡ holdingsField false = cc in rw same (omega arith, omega arith)
+row-field true false true at {k = k} e = let same : k ≡ holdingsField true = cc in rw same (omega arith, omega arith)
 row-field persons false false at e = let z : _≡_ {A = ℕ} 0 1 = cc in absurd (omega arith)
 
 -- a field of a policy, from the policy's place on

@@ -28,6 +28,9 @@ const CODE_WIDTH: usize = 2;
 
 const POLICY_WIDTH: usize = 7;
 
+// P's width, the first field of a policy.
+const TASK_WIDTH: usize = 4;
+
 // ---- what stands at a place
 
 // As a wider number.
@@ -293,7 +296,7 @@ fn cut_policy(book: &[u8], at: usize) -> usize
     requires { ⌜ length (now book) < at + 7 ⌝ }
     ensures { λ r. ⌜ r ≡ cutPlace policyWidths (length (now (book .entry))) at ⌝ }
 {
-    if cut(book, at, 4) {
+    if cut(book, at, TASK_WIDTH) {
         return at;
     }
     book.len()

@@ -103,8 +103,9 @@ fn look_row(values: Values, i: usize) -> Amiss
     requires { ⌜ i < limitIn Section.Rows ⌝ }
     ensures { λ r. ⌜ r ≡ lookAt values Section.Rows i ⌝ }
 {
+    let form = values.form;
     row_amiss(
-        values.form,
+        form,
         stays(values, Section::Rows, i),
         past_listed(values.code_count, row_in(values, i).holdings),
     )

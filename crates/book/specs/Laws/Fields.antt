@@ -5,7 +5,7 @@ use mathlib.Core.Logic.{_⊎_, inl, inr}
 use mathlib.Core.Bool.{Bool, true, false}
 use mathlib.Core.Option.{Option, some}
 use mathlib.Core.List.{List, [], _∷_, _++_}
-use Prim.Native.Nat.{ℕ, zero, suc, _+_, _*_, _≤_, _<_}
+use Prim.Native.Nat.{ℕ, zero, suc, _+_, _≤_, _<_}
 use native.Mathlib.Nat.{mul-suc}
 use native.Mathlib.Omega.{arith}
 use lib.Dec.{ltb}
@@ -17,9 +17,9 @@ use Rattle.roster.specs.declared.Made.the-variants as variants
 use Rattle.roster.specs.declared.Policy.{Policy}
 use Rattle.roster.specs.declared.Refusal.{Refusal}
 use Rattle.roster.specs.declared.Refusal.the-variants as refusal
-use Rattle.book.specs.Layout.{Each, hasPersons}
+use Rattle.book.specs.Layout.{Each}
 use Rattle.book.specs.Faults.{faultNumber, faultOf}
-use Rattle.book.specs.Reading.{Kind, total, fieldPlace, cutPlace, amissIf, faultIf, placed, notAbove, pastListed, staffOf, rowAmiss, fieldOf, byMade, codes, rowsOf, policies, width, entryAt, prior, countLook, entryLook, inTurn, countAt, sectionLooks, past, formOf, front, listedIn, endLook, looksFromPolicies, looksFromRows, looksBy, looks, firstFault, startsOf, readOf}
+use Rattle.book.specs.Reading.{Kind, total, fieldPlace, cutPlace, amissIf, faultIf, placed, notAbove, pastListed, staffOf, fieldOf, byMade, codes, rowsOf, policies, width, entryAt, prior, countLook, entryLook, inTurn, countAt, sectionLooks, past, formOf, listedIn, endLook, looksFromPolicies, looksFromRows, looksBy, firstFault, startsOf, readOf}
 use Rattle.book.specs.FieldPlaces.{entryPlace, FieldIn, CutIn, CutSection, Points}
 use Rattle.book.specs.EntryPlaces.{atEntry, entryWas, sectionWas, readWas, PlaceStays, Beside}
 use Rattle.book.specs.Laws.Books.{refused-first-fault}

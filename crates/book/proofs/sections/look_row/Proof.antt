@@ -7,7 +7,7 @@ use Prim.Native.Nat.{ℕ, _+_, _*_, _≤_}
 use lib.Dec.{ltb}
 use lib.ListN.{length}
 use Rattle.book.specs.Layout.{rowWidths, hasPersons}
-use Rattle.book.specs.Reading.{Kind, rowsOf, width, prior, entryAt, entryLook, fieldsAt, pastListed, rowAmiss, fieldPlace, placed}
+use Rattle.book.specs.Reading.{rowsOf, width, prior, entryAt, entryLook, pastListed, rowAmiss, fieldPlace, placed}
 use Rattle.book.specs.declared.Row.{Row}
 use Rattle.book.specs.declared.Amiss.{Amiss}
 use Rattle.book.specs.declared.Amiss.the-variants.{Field}
