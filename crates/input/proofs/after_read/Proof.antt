@@ -13,10 +13,10 @@ use mir.Val.{toZ, ofZ}
 use mir.Facts.{toZ-ofZ}
 use Rattle.libc.specs.Io.{Moved}
 use Rattle.lines.specs.Sheet.{enough}
-use Rattle.sheet.specs.Input.{grownBy, afterRead}
-use Rattle.sheet.specs.declared.input.Progress.the-variants.{Failed}
-use Rattle.sheet.proofs.input.after_read.Statement.{statement}
-use Rattle.sheet.proofs.input.after_read.Tie as tie
+use Rattle.input.specs.Input.{grownBy, afterRead}
+use Rattle.input.specs.declared.Progress.the-variants.{Failed}
+use Rattle.input.proofs.after_read.Statement.{statement}
+use Rattle.input.proofs.after_read.Tie as tie
 
 failed : (have : ℕ) (got : ℤ) → ltZ got (pos 0) ≡ true → Failed ≡ afterRead have got
 unfolding afterRead

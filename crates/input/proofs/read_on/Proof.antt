@@ -15,10 +15,10 @@ use borrow.Author.Tests.{ltb-true, ltb-false}
 use borrow.Rule.Slice.PartMut.{take-put, mid-len}
 use Rattle.libc.specs.Io.{Moved}
 use Rattle.lines.specs.Sheet.{enough}
-use Rattle.sheet.specs.Input.{grownBy, afterRead, Onward}
-use Rattle.sheet.specs.declared.input.Progress.the-variants.{Whole, More}
-use Rattle.sheet.proofs.input.read_on.Statement.{statement}
-use Rattle.sheet.proofs.input.read_on.Tie as tie
+use Rattle.input.specs.Input.{grownBy, afterRead, Onward}
+use Rattle.input.specs.declared.Progress.the-variants.{Whole, More}
+use Rattle.input.proofs.read_on.Statement.{statement}
+use Rattle.input.proofs.read_on.Tie as tie
 
 -- what a read's answer says goes on from where the input stood
 by-room : (have there : ℕ) → have < there → there ≤ enough → (b : Bool) → ltb there enough ≡ b → Onward have (elim b [ true ↦ More there | false ↦ Whole there ])

@@ -1,14 +1,15 @@
-// Reading standard input. What a read does to the buffer is assumed; what is made of its answer is said here, read by read.
+// Reading standard input, as the programs that take a book do. What a read does to the buffer is assumed; what is made of its answer is said here,
+// read by read.
 ghost use mathlib.Core.Path.{_≡_};
 ghost use Prim.Native.Nat.{_+_, _-_, _≤_, _<_};
 ghost use lib.ListN.{length};
 ghost use Rattle.libc.specs.Io.{Moved};
 ghost use Rattle.lines.specs.Sheet.{enough};
-ghost use Rattle.sheet.specs.Input.{grownBy, afterRead, OneRead, Settled};
+ghost use Rattle.input.specs.Input.{grownBy, afterRead, OneRead, Settled};
 
 // What is known of the input: that it cannot be read; that it is whole, with so many bytes at the front of the buffer; or that so many are
 // there and more may follow.
-pub(crate) enum Progress {
+pub enum Progress {
     Failed,
     Whole(usize),
     More(usize),
@@ -51,9 +52,9 @@ fn read_on(book: &mut [u8], have: usize) -> Progress
 }
 
 // Reads until the input is whole or a read fails, in however many pieces it comes.
-pub(crate) fn read_book(book: &mut [u8]) -> Progress
-    requires { ⌜ length (now book) ≡ enough ⌝ }
-    ensures { λ r. ⌜ Settled r (now (book .exit)) ⌝ }
+pub fn read_book(book: &mut [u8; lines::ENOUGH]) -> Progress
+    ensures settled { λ r. ⌜ Settled r (now (book .exit)) ⌝ }
+    ensures long { λ _. ⌜ length (now (book .exit)) ≡ enough ⌝ }
 {
     let mut have = 0;
     loop {

@@ -8,8 +8,8 @@ use lib.Dec.{ltb}
 use lib.IntN.{ℤ, pos, negsuc}
 use lib.ListN.{length, take}
 use Rattle.lines.specs.Sheet.{enough}
-use Rattle.sheet.specs.declared.input.Progress.{Progress}
-use Rattle.sheet.specs.declared.input.Progress.the-variants.{Failed, Whole, More}
+use Rattle.input.specs.declared.Progress.{Progress}
+use Rattle.input.specs.declared.Progress.the-variants.{Failed, Whole, More}
 
 -- So many bytes more, behind those that were there. None is the end of the input; and as many as decide the sheet are a whole input, however
 -- many follow.

@@ -4,10 +4,10 @@ use Prim.Native.Nat.{ℕ, zero, suc, _+_, _≤_, _<_}
 use borrow.Author.Needs.{needs}
 use borrow.Author.Tests.{lt-ltb, le-ltb}
 use Rattle.lines.specs.Sheet.{enough}
-use Rattle.sheet.specs.Input.{grownBy}
-use Rattle.sheet.specs.declared.input.Progress.the-variants.{Whole, More}
-use Rattle.sheet.proofs.input.grown_by.Statement.{statement}
-use Rattle.sheet.proofs.input.grown_by.Tie as tie
+use Rattle.input.specs.Input.{grownBy}
+use Rattle.input.specs.declared.Progress.the-variants.{Whole, More}
+use Rattle.input.proofs.grown_by.Statement.{statement}
+use Rattle.input.proofs.grown_by.Tie as tie
 
 at-end : (have more : ℕ) → more ≡ 0 → Whole have ≡ grownBy have more
 unfolding grownBy
