@@ -48,3 +48,15 @@ run() { # NAME
     [ -z "$complaint" ] || { status=1; printf '%s\n' "$complaint" >&2 || :; }
     exit "$status"
 }
+
+# The program on one book: the one that is named, or standard input.
+of_book() { # NAME [BOOK]
+    [ $# -le 2 ] || die "one book at most: bin/$1 BOOK, or the book on standard input"
+    find_kit
+    build "$1"
+    if [ $# -eq 2 ]; then
+        [ -r "$2" ] || die "cannot read $2"
+        exec <"$2"
+    fi
+    run "$1"
+}
