@@ -3,11 +3,9 @@
 use mathlib.Core.Path.{_≡_}
 use mathlib.Core.List.{List}
 use Prim.Native.Nat.{ℕ, _≤_, _<_}
-use Rattle.roster.specs.declared.Table.{Table}
 use Rattle.roster.specs.declared.Refusal.{Refusal}
 use Rattle.roster.specs.declared.Ruling.the-variants as ruling
 use Rattle.roster.specs.Meaning.{CrewList, Blocks}
-use Rattle.roster.specs.Refusals.{namedRuling}
 use Rattle.crews.specs.Named.{needNamed}
 use Rattle.accounts.specs.declared.Accounts.{Accounts}
 use Rattle.accounts.specs.Persons.{merged}
@@ -35,9 +33,3 @@ pub record WhyReply (a : Accounts) (P d t A allowance : ℕ) (r : Explained) : T
   -- "For a blocking absence give one reason"; "its units are that question's alone"
   pub reason : personsRuling a P d t A ≡ ruling.Admitted → needWhy a P d t A ≤ allowance
       → Blocks (merged a) P d t A → Reason (merged a) P d t A (r .why) × (r .units ≡ needWhy a P d t A)
-
--- what is known where a reason is looked for: the question is admitted and decided, and the absence blocks
-pub record Stuck (table : Table) (P d t A allowance : ℕ) : Type 0 where
-  pub admitted : namedRuling (table .rows) P d t A ≡ ruling.Admitted
-  pub decided : needNamed table P d t A ≤ allowance
-  pub blocks : Blocks table P d t A

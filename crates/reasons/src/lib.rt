@@ -7,12 +7,13 @@ use roster::Table;
 use roster::Verdict;
 ghost use mathlib.Core.Path.{_≡_};
 ghost use Prim.Native.Nat.{_<_};
+ghost use lib.Bits.{bitAnd};
 ghost use Rattle.sets.specs.Arrays.{at};
 ghost use Rattle.accounts.specs.Persons.{first};
 ghost use Rattle.reasons.specs.Reasons.{Reason, reasonNumber};
-ghost use Rattle.reasons.specs.Replies.{Stuck, WhyReply, explainedWith};
-ghost use Rattle.reasons.specs.Inner.{scarceAmong};
-ghost use Rattle.reasons.specs.declared.Explanation.the-variants as explanation;
+ghost use Rattle.reasons.specs.Replies.{WhyReply};
+ghost use Rattle.reasons.specs.Inner.{Stuck};
+ghost use Rattle.reasons.specs.Replied.{scarceIn};
 
 // What is answered: one of the three reasons, the first that is true; that crews exist, so that there is nothing to explain; or why nothing can be
 // told.
@@ -43,7 +44,9 @@ impl Explanation {
             Explanation::Scarce(_) => 1,
             Explanation::NoCrew => 2,
             Explanation::Overlap => 3,
-            _ => 0,
+            Explanation::Nothing => 0,
+            Explanation::Undecided => 0,
+            Explanation::Refused(_) => 0,
         }
     }
 }
@@ -51,7 +54,7 @@ impl Explanation {
 // Whether the permission is one of the task that fewer than so many of the free persons hold.
 fn scarce(holders: &[u64; 32], task: u32, crews: usize, free: u64, permission: u32) -> bool
     requires { ⌜ permission < 32 ⌝ }
-    ensures { λ r. ⌜ r ≡ scarceAmong (at (now (holders .entry))) task crews free permission ⌝ }
+    ensures { λ r. ⌜ r ≡ scarceIn (λ p. bitAnd (at (now (holders .entry)) p) free) task crews permission ⌝ }
 {
     if (task >> permission) & 1 == 0 {
         return false;
@@ -62,7 +65,7 @@ fn scarce(holders: &[u64; 32], task: u32, crews: usize, free: u64, permission: u
 
 // The lowest such permission; 32 if there is none.
 fn lowest_scarce(holders: &[u64; 32], task: u32, crews: usize, free: u64) -> u32
-    ensures { λ r. ⌜ r ≡ first (scarceAmong (at (now (holders .entry))) task crews free) 32 ⌝ }
+    ensures { λ r. ⌜ r ≡ first (scarceIn (λ p. bitAnd (at (now (holders .entry)) p) free) task crews) 32 ⌝ }
 {
     let mut permission: u32 = 0;
     while permission < 32 {

@@ -1,0 +1,55 @@
+-- No permission passed is scarce. Assumes nothing.
+use mathlib.Core.Path.{_≡_, sym, _∙_}
+use mathlib.Core.Bool.{true, false}
+use Prim.Native.Nat.{ℕ, _-_, _≤_, _<_}
+use native.Mathlib.Omega.{arith}
+use borrow.Author.Needs.{needs}
+use borrow.Author.Count.{below-more}
+use lib.Bits.{bitAnd}
+use Rattle.sets.specs.Arrays.{at}
+use Rattle.accounts.specs.Laws.First.{first-is}
+use Rattle.reasons.specs.Replied.{scarceIn}
+use Rattle.reasons.proofs.lowest_scarce.Statement.{statement}
+use Rattle.reasons.proofs.lowest_scarce.Tie as tie
+
+abbrev Inv-loop : tie.InvT-loop
+Inv-loop holders task crews free permission₀ permission =
+    (permission ≤ 32) × ((i : ℕ) → i < permission → scarceIn (λ p. bitAnd (at holders p) free) task crews i ≡ false)
+
+abbrev μ-loop : tie.MeasureT-loop
+μ-loop holders task crews free permission₀ permission = 32 - permission
+
+loop-holds : tie.Need-loop-holds Inv-loop μ-loop
+loop-holds c = search needs
+
+scarce-requires : tie.Need-scarce-requires Inv-loop μ-loop
+scarce-requires c κs = search needs
+
+returns : tie.Need-returns Inv-loop μ-loop
+returns c = ?
+
+add-permission : tie.Need-add-permission Inv-loop μ-loop
+add-permission c = search needs
+
+loop-less : tie.Need-loop-less Inv-loop μ-loop
+loop-less c = search needs
+
+loop-again : tie.Need-loop-again Inv-loop μ-loop
+loop-again c = ?
+
+returns-2 : tie.Need-returns-2 Inv-loop μ-loop
+returns-2 c = ?
+
+pub lowest-scarce-spec : {M : Type 1} → statement M
+lowest-scarce-spec =
+    tie.close
+    (tie.spec
+    Inv-loop
+    μ-loop
+    loop-holds
+    scarce-requires
+    returns
+    add-permission
+    loop-less
+    loop-again
+    returns-2)
