@@ -5,3 +5,6 @@ pub mod Lowest
 pub mod Reasons
 -- every question has one reply
 pub mod Replies
+-- what a reply tells of persons and their accounts
+pub mod Persons
+pub mod Told

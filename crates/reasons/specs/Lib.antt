@@ -2,5 +2,8 @@
 pub mod Reasons
 pub mod Replies
 pub mod Replied
+-- what a reply tells of persons, and a table of examples
+pub mod Told
+pub mod Examples
 pub mod Inner
 pub mod Laws

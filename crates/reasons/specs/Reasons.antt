@@ -19,26 +19,31 @@ holdersHere table P A p = setOf (table .rows) (λ u. hasb (held table P u) p && 
 abbrev pub Scarce : Table → (P d A p : ℕ) → Type 0
 Scarce table P d A p = Has P p × (ones (holdersHere table P A p) < d)
 
--- "the lowest" of them
-abbrev pub LowestScarce : Table → (P d A p : ℕ) → Type 0
-LowestScarce table P d A p = Scarce table P d A p × ((q : ℕ) → q < p → Scarce table P d A q → ⊥)
+-- p is the lowest of those that are scarce; and none is
+abbrev pub Lowest : (ℕ → Type 0) → ℕ → Type 0
+Lowest IsScarce p = IsScarce p × ((q : ℕ) → q < p → IsScarce q → ⊥)
 
-abbrev pub NoneScarce : Table → (P d A : ℕ) → Type 0
-NoneScarce table P d A = (p : ℕ) → Scarce table P d A p → ⊥
+abbrev pub NoneIs : (ℕ → Type 0) → Type 0
+NoneIs IsScarce = (p : ℕ) → IsScarce p → ⊥
 
--- What is said with each reason: that it is true, and that no earlier one is.
-abbrev pub Reason : Table → (P d t A : ℕ) → Explanation → Type 0
+-- What is said with each reason: that it is true, and that no earlier one is. It is said in the words that are handed over: which permissions are
+-- scarce, that there is one crew, that there is not even one, and that the absence blocks.
+abbrev pub ReasonBy : (ℕ → Type 0) → (Single NoSingle Blocked : Type 0) → Explanation → Type 0
 -- "(1) the lowest permission of the task with fewer than d present holders"
-Reason table P d t A (explanation.Scarce p) = LowestScarce table P d A p
+ReasonBy IsScarce Single NoSingle Blocked (explanation.Scarce p) = Lowest IsScarce p
 -- "else (2) not even one crew within the size limit exists"
-Reason table P d t A explanation.NoCrew = NoneScarce table P d A × Blocks table P 1 t A
+ReasonBy IsScarce Single NoSingle Blocked explanation.NoCrew = NoneIs IsScarce × NoSingle
 -- "else (3) single crews exist but not d disjoint ones"
-Reason table P d t A explanation.Overlap =
-    NoneScarce table P d A × ((crew : List ℕ) × CrewList table P 1 t A crew) × Blocks table P d t A
+ReasonBy IsScarce Single NoSingle Blocked explanation.Overlap = NoneIs IsScarce × Single × Blocked
 -- the others are no reasons
-Reason table P d t A explanation.Nothing = ⊥
-Reason table P d t A explanation.Undecided = ⊥
-Reason table P d t A (explanation.Refused refusal) = ⊥
+ReasonBy IsScarce Single NoSingle Blocked explanation.Nothing = ⊥
+ReasonBy IsScarce Single NoSingle Blocked explanation.Undecided = ⊥
+ReasonBy IsScarce Single NoSingle Blocked (explanation.Refused refusal) = ⊥
+
+-- the reason why A blocks
+abbrev pub Reason : Table → (P d t A : ℕ) → Explanation → Type 0
+Reason table P d t A =
+    ReasonBy (Scarce table P d A) ((crew : List ℕ) × CrewList table P 1 t A crew) (Blocks table P 1 t A) (Blocks table P d t A)
 
 -- the published numbers; 0 where no reason is given
 abbrev pub reasonNumber : Explanation → ℕ

@@ -1,6 +1,6 @@
 -- A permission outside the task is not scarce; else its free holders are counted. Assumes nothing.
-use mathlib.Core.Path.{_≡_, sym, ap, ap₂, _∙_}
-use mathlib.Core.Bool.{Bool, true, false, _&&_}
+use mathlib.Core.Path.{_≡_, sym, ap, _∙_}
+use mathlib.Core.Bool.{Bool, false, _&&_}
 use mathlib.Core.Logic.{_≢_}
 use Prim.Native.Nat.{ℕ, _/_, _^_}
 use native.Mathlib.Omega.{arith}
@@ -8,8 +8,7 @@ use borrow.Author.Needs.{needs}
 use lib.Bits.{bitAnd}
 use lib.Count.{ones}
 use lib.Dec.{ltb}
-use Rattle.sets.specs.Sets.{bit, bit-le, shr-and-one}
-use Rattle.sets.specs.Members.{hasb}
+use Rattle.sets.specs.Sets.{bit-le, shr-and-one}
 use Rattle.sets.specs.Laws.Tests.{has-hasb, out-hasb}
 use Rattle.sets.specs.Arrays.{at}
 use Rattle.reasons.specs.Replied.{scarceIn}
@@ -29,7 +28,9 @@ shr-if1 : tie.Need-shr-if1
 shr-if1 c = search needs
 
 returns : tie.Need-returns
-returns c = ?
+returns c =
+    let s = c .before .args in
+    sym (outside (λ p. bitAnd (at (s .holders .now) p) (s .free)) (s .task) (s .crews) (s .permission) (c .if1 .taken))
 
 mul-size : tie.Need-mul-size
 mul-size c = search needs
@@ -44,7 +45,10 @@ cast-present : tie.Need-cast-present
 cast-present c = search needs
 
 returns-2 : tie.Need-returns-2
-returns-2 c = ?
+returns-2 c =
+    let s = c .before .before .before .args in
+    ap (λ (n : ℕ). ltb n (s .crews)) (c .size .ensures)
+    ∙ sym (inside (λ p. bitAnd (at (s .holders .now) p) (s .free)) (s .task) (s .crews) (s .permission) (c .before .before .if1 .left))
 
 pub scarce-spec : {M : Type 1} → statement M
 scarce-spec =

@@ -14,7 +14,7 @@ use Rattle.sets.specs.Laws.Tests.{hasb-true, has-hasb}
 use Rattle.roster.specs.declared.Table.{Table}
 use Rattle.accounts.specs.Persons.{first}
 use Rattle.accounts.specs.Laws.First.{first-has, first-before, first-some}
-use Rattle.reasons.specs.Reasons.{holdersHere, Scarce, LowestScarce, NoneScarce}
+use Rattle.reasons.specs.Reasons.{holdersHere, Scarce, Lowest, NoneIs}
 use Rattle.reasons.specs.Replied.{scarceIn, lowestScarce}
 
 both : (x y : Bool) → (x && y) ≡ true → (x ≡ true) × (y ≡ true)
@@ -39,21 +39,21 @@ clash : {b : Bool} → b ≡ true → b ≡ false → ⊥
 clash y n = let z : _≡_ {A = ℕ} 0 1 = cc in omega arith
 
 module _ (table : Table) (P d A : ℕ) where
-  pub lowest-scarce : lowestScarce table P d A < 32 → LowestScarce table P d A (lowestScarce table P d A)
+  pub lowest-scarce : lowestScarce table P d A < 32 → Lowest (Scarce table P d A) (lowestScarce table P d A)
   lowest-scarce l = (
     scarce-told (holdersHere table P A) P d (lowestScarce table P d A) (first-has (scarceIn (holdersHere table P A) P d) 32 l),
     λ q k s.
         clash (scarce-tells (holdersHere table P A) P d q (s .0) (s .1)) (first-before (scarceIn (holdersHere table P A) P d) 32 q k),
   )
 
-  pub none-scarce : P < 2 ^ 32 → 32 ≤ lowestScarce table P d A → NoneScarce table P d A
+  pub none-scarce : P < 2 ^ 32 → 32 ≤ lowestScarce table P d A → NoneIs (Scarce table P d A)
   none-scarce wide l p s = go (decLt p 32)
     where
       go : Dec (p < 32) → ⊥
       go (yes k) = omega (arith, first-some (scarceIn (holdersHere table P A) P d) 32 p k (scarce-tells (holdersHere table P A) P d p (s .0) (s .1)))
       go (no n) = omega (arith, s .0, bit-high P 32 p wide (omega arith))
 
-  pub lowest-unique : (p q : ℕ) → LowestScarce table P d A p → LowestScarce table P d A q → p ≡ q
+  pub lowest-unique : (p q : ℕ) → Lowest (Scarce table P d A) p → Lowest (Scarce table P d A) q → p ≡ q
   lowest-unique p q a b = go (decLt p q) (decLt q p)
     where
       go : Dec (p < q) → Dec (q < p) → p ≡ q

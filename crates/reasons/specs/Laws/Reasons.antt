@@ -22,7 +22,8 @@ use Rattle.crews.specs.Laws.Named.{admitted-fair, named-crews}
 use Rattle.crews.specs.Laws.OneCrew.{one-crew-need}
 use Rattle.reasons.specs.declared.Explanation.{Explanation}
 use Rattle.reasons.specs.declared.Explanation.the-variants.{Scarce, NoCrew, Overlap, Nothing, Undecided, Refused}
-use Rattle.reasons.specs.Reasons.{NoneScarce, Reason}
+use Rattle.reasons.specs.Reasons.{NoneIs, Reason}
+use Rattle.reasons.specs.Reasons as reasons
 use Rattle.reasons.specs.Replied.{lowestScarce, reasonBy, reasonOf}
 use Rattle.reasons.specs.Inner.{Stuck}
 use Rattle.reasons.specs.Laws.Scarce.{scarce-blocks}
@@ -88,7 +89,7 @@ module _ {table : Table} {P d : ℕ} (fair : Fair table P d) where
       is : (w : Explanation) → reasonOf table P d t A ≡ w → Reason table P d t A w → Reason table P d t A (reasonOf table P d t A)
       is w e x = subst (Reason table P d t A) (sym e) x
 
-      one : 32 ≤ lowestScarce table P d A → NoneScarce table P d A → (filling table P 1 t A .found ≡ true) ⊎ (filling table P 1 t A .found ≡ false)
+      one : 32 ≤ lowestScarce table P d A → NoneIs (reasons.Scarce table P d A) → (filling table P 1 t A .found ≡ true) ⊎ (filling table P 1 t A .found ≡ false)
           → Reason table P d t A (reasonOf table P d t A)
       one l none (inl f) =
           is Overlap (by-overlap (lowestScarce table P d A) (filling table P 1 t A) l f)
@@ -114,10 +115,10 @@ module _ (table : Table) (P d t A allowance : ℕ) (wide : P < 2 ^ 32) (stuck : 
       let crews = named-crews table P 1 t A allowance wide one reply (named-one (table .rows) P d t A (stuck .admitted)) in
       (λ v. crews .0 v .1, λ x. crews .1 (omega (arith, one-crew-need table P d t A some, stuck .decided), x))
 
-  pub overlap-is : NoneScarce table P d A → one .verdict ≡ Crews → Reason table P d t A Overlap
+  pub overlap-is : NoneIs (reasons.Scarce table P d A) → one .verdict ≡ Crews → Reason table P d t A Overlap
   overlap-is none v = (none, single .0 v, stuck .blocks)
 
-  pub no-crew-is : NoneScarce table P d A → one .verdict ≢ Crews → Reason table P d t A NoCrew
+  pub no-crew-is : NoneIs (reasons.Scarce table P d A) → one .verdict ≢ Crews → Reason table P d t A NoCrew
   no-crew-is none n =
       let x = admitted-fair table P d t A wide (stuck .admitted) in
       (none, ⊎-elim (λ c. absurd (n (single .1 c))) (λ b. b) (decide (alone (x .0)) t A (x .1)))
