@@ -1,11 +1,13 @@
 -- "Why" as one table of questions with their replies and the published number of each, and one theorem: each of these replies is the one that the
 -- contract allows, and the numbers are theirs. The definitions run on them.
 use mathlib.Core.Path.{_≡_, refl, subst}
+use mathlib.Core.Bool.{Bool, true}
 use mathlib.Core.List.{List, [], _∷_, _++_, map}
-use Prim.Native.Nat.{ℕ, _^_, _<_}
-use native.Mathlib.Omega.{arith}
+use Prim.Native.Nat.{ℕ, _^_}
 use lib.Count.{ones, onesIn, trailingZeros}
+use lib.Dec.{ltb}
 use lib.ListN.{length}
+use borrow.Author.Tests.{ltb-true}
 use Rattle.sets.specs.Sets.{bit}
 use Rattle.sets.specs.Sums.{sumTo, toN}
 use Rattle.sets.specs.Members.{cons?, members, filter, hasb, setOf}
@@ -107,7 +109,7 @@ examples = rows ++ people
 
 -- the contract allows the answer with these units
 abbrev pub Allowed : Question → Explained → Type 0
-Allowed (why a P d t absent allowance) r = P < 2 ^ 32 → WhyReply a P d t (setOfRows absent) allowance r
+Allowed (why a P d t absent allowance) r = WhyReply a P d t (setOfRows absent) allowance r
 
 abbrev pub AllAllowed : List Example → Type 0
 AllAllowed [] = Unit {0}
@@ -117,18 +119,23 @@ AllAllowed (e ∷ rest) = Allowed (e .question) (explainedWith (e .answer) (e .u
 abbrev pub replyOf : Question → Explained
 replyOf (why a P d t absent allowance) = whyReplyOf a P d t (setOfRows absent) allowance
 
-allowed : (q : Question) → Allowed q (replyOf q)
-allowed (why a P d t absent allowance) wide = why-allowed a P d t (setOfRows absent) allowance wide
+-- the task has 32 bits
+abbrev narrow : Question → Bool
+narrow (why a P d t absent allowance) = ltb P (2 ^ 32)
+
+allowed : (q : Question) → narrow q ≡ true → Allowed q (replyOf q)
+allowed (why a P d t absent allowance) wide = why-allowed a P d t (setOfRows absent) allowance (ltb-true P (2 ^ 32) wide)
 
 -- where the definition gives the replies and numbers of a list, they are allowed
 all-allowed : (l : List Example) → map (λ (e : Example). replyOf (e .question)) l ≡ map (λ (e : Example). explainedWith (e .answer) (e .units)) l
-    → map (λ (e : Example). reasonNumber (e .answer)) l ≡ map Example.number l → AllAllowed l
-all-allowed [] r n = tt
-all-allowed (e ∷ rest) r n =
+    → map (λ (e : Example). reasonNumber (e .answer)) l ≡ map Example.number l
+    → map (λ (e : Example). narrow (e .question)) l ≡ map (λ (e : Example). true) l → AllAllowed l
+all-allowed [] r n w = tt
+all-allowed (e ∷ rest) r n w =
     let here : replyOf (e .question) ≡ explainedWith (e .answer) (e .units) = cc in
-    (subst (Allowed (e .question)) here (allowed (e .question)), cc, all-allowed rest (cc) (cc))
+    (subst (Allowed (e .question)) here (allowed (e .question) (cc)), cc, all-allowed rest (cc) (cc) (cc))
 
 -- each reply of the table is the one allowed, and each number the one published
 pub examples-hold : AllAllowed examples
 unfolding bit sumTo toN cons? members filter hasb setOf ones onesIn trailingZeros placeOf closeOf placedOf candidates tryEach search policyRuling first unionTo firstOf leads countOf personOf heldBy tabulate scarceIn
-examples-hold = all-allowed examples refl refl
+examples-hold = all-allowed examples refl refl refl

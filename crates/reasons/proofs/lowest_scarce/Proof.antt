@@ -53,8 +53,7 @@ loop-less c = search needs
 loop-again : tie.Need-loop-again Inv-loop μ-loop
 loop-again c =
     let s = c .before .before .before .before .args in
-    let l = c .before .before .before .loop in
-    (
+    let l = c .before .before .before .loop in (
       omega (arith, c .before .before .loop-test .taken),
       one-more (test (s .holders .now) (s .task) (s .crews) (s .free)) (l .permission) (l .inv .1) (sym (c .before .scarce .ensures) ∙ c .if1 .left),
     )

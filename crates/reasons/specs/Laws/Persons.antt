@@ -1,12 +1,16 @@
 -- The reasons at the merged table are the reasons of persons and their accounts. Assumes nothing.
 use mathlib.Core.Path.{sym, subst}
 use mathlib.Core.Logic.{_↔_}
+use mathlib.Core.List.{List}
 use Prim.Native.Nat.{ℕ, _≤_, _<_}
 use native.Mathlib.Omega.{arith}
 use lib.Count.{ones}
 use Rattle.sets.specs.Sets.{Has, ext-all, sub-of-has, and-in, in-and}
+use Rattle.roster.specs.declared.Table.{Table}
+use Rattle.roster.specs.Meaning.{CrewList, Blocks}
 use Rattle.accounts.specs.declared.Accounts.{Accounts}
 use Rattle.accounts.specs.Persons.{persons, merged}
+use Rattle.accounts.specs.Meaning.{PersonCrews, PersonsBlock}
 use Rattle.accounts.specs.Laws.Merged.{every-row, holds-all-his, crews-of-persons, blocks-of-persons}
 use Rattle.sets.specs.Arrays.{at}
 use Rattle.reasons.specs.declared.Explanation.{Explanation}
@@ -15,14 +19,14 @@ use Rattle.reasons.specs.Reasons.{holdersHere, Scarce, ReasonBy, Reason,
 use Rattle.reasons.specs.Told.{HolderHere, PersonsScarce, PersonsReason}
 use Rattle.reasons.specs.Laws.Scarce.{holder-here}
 
--- what has a reason's number is one
-pub reason-number : {S : ℕ → Type 0} {One None Blocked : Type 0} (w : Explanation) → ReasonBy S One None Blocked w → 1 ≤ reasonNumber w
-reason-number (explanation.Scarce p) x = omega arith
-reason-number explanation.NoCrew x = omega arith
-reason-number explanation.Overlap x = omega arith
-reason-number explanation.Nothing x = absurd x
-reason-number explanation.Undecided x = absurd x
-reason-number (explanation.Refused refusal) x = absurd x
+-- what is a reason has a reason's number
+pub reason-number : (table : Table) (P d t A : ℕ) (w : Explanation) → Reason table P d t A w → 1 ≤ reasonNumber w
+reason-number table P d t A (explanation.Scarce p) x = omega arith
+reason-number table P d t A explanation.NoCrew x = omega arith
+reason-number table P d t A explanation.Overlap x = omega arith
+reason-number table P d t A explanation.Nothing x = absurd x
+reason-number table P d t A explanation.Undecided x = absurd x
+reason-number table P d t A (explanation.Refused refusal) x = absurd x
 
 -- in other words that mean the same it is the same reason
 module _ (S Z : ℕ → Type 0) (One None Blocked Un Nul Bar : Type 0) (scarce : (p : ℕ) → S p ↔ Z p) (one : One → Un) (none : None → Nul)
@@ -62,12 +66,21 @@ module _ (a : Accounts) (P : ℕ) where
           let e = ext-all (holdersHere (merged a) P A p) set (λ i. omega (arith, sub-of-has _ _ (λ j h. are j .1 (here j .0 h)) i, sub-of-has _ _ (λ j h. here j .1 (are j .0 h)) i)) in
           (hp, subst (λ (m : ℕ). ones m < d) (sym e) few)
 
+  -- there is one crew, in either words
+  abbrev Single : ℕ → ℕ → Type 0
+  Single t A = (crew : List ℕ) × CrewList (merged a) P 1 t A crew
+
+  abbrev PersonsSingle : ℕ → ℕ → Type 0
+  PersonsSingle t A = (crew : List ℕ) × PersonCrews a P 1 t A crew
+
   pub reason-persons : (d t A : ℕ) (w : Explanation) → Reason (merged a) P d t A w ↔ PersonsReason a P d t A w
   reason-persons d t A w =
       let list = crews-of-persons a P 1 t A in
       let one = blocks-of-persons a P 1 t A in
       let all = blocks-of-persons a P d t A in
       let scarce = scarce-persons d A in (
-        reworded _ _ _ _ _ _ _ _ scarce (λ c. (c .0, list (c .0) .0 (c .1))) (one .0) (all .0) w,
-        reworded _ _ _ _ _ _ _ _ (λ p. (scarce p .1, scarce p .0)) (λ c. (c .0, list (c .0) .1 (c .1))) (one .1) (all .1) w,
+        reworded (Scarce (merged a) P d A) (PersonsScarce a P d A) (Single t A) (Blocks (merged a) P 1 t A) (Blocks (merged a) P d t A) (PersonsSingle t A)
+            (PersonsBlock a P 1 t A) (PersonsBlock a P d t A) scarce (λ c. (c .0, list (c .0) .0 (c .1))) (one .0) (all .0) w,
+        reworded (PersonsScarce a P d A) (Scarce (merged a) P d A) (PersonsSingle t A) (PersonsBlock a P 1 t A) (PersonsBlock a P d t A) (Single t A)
+            (Blocks (merged a) P 1 t A) (Blocks (merged a) P d t A) (λ p. (scarce p .1, scarce p .0)) (λ c. (c .0, list (c .0) .1 (c .1))) (one .1) (all .1) w,
       )

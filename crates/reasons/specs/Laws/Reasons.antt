@@ -73,10 +73,10 @@ by-scarce : (lowest : ℕ) (o : Outcome) → lowest < 32 → reasonBy lowest o �
 by-scarce lowest o l = rw (lt-ltb lowest 32 l, reasonBy)
 
 by-overlap : (lowest : ℕ) (o : Outcome) → 32 ≤ lowest → o .found ≡ true → reasonBy lowest o ≡ Overlap
-by-overlap lowest o l f = rw (le-ltb 32 lowest l, f, reasonBy)
+by-overlap lowest o l f = rw (le-ltb lowest 32 l, f, reasonBy)
 
 by-no-crew : (lowest : ℕ) (o : Outcome) → 32 ≤ lowest → o .found ≡ false → reasonBy lowest o ≡ NoCrew
-by-no-crew lowest o l f = rw (le-ltb 32 lowest l, f, reasonBy)
+by-no-crew lowest o l f = rw (le-ltb lowest 32 l, f, reasonBy)
 
 module _ {table : Table} {P d : ℕ} (fair : Fair table P d) where
   alone : Fair table P 1

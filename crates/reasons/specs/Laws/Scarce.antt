@@ -15,6 +15,7 @@ use Rattle.sets.specs.Laws.Build.{setOf-bit, setOf-lt}
 use Rattle.roster.specs.declared.Table.{Table}
 use Rattle.roster.specs.Meaning.{held, Blocks}
 use Rattle.reasons.specs.Reasons.{holdersHere, Scarce}
+
 toN-but : (x y : Bool) → toN (x && not y) ≡ toN x - toN y
 unfolding toN
 toN-but true true = refl

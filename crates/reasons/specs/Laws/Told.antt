@@ -1,6 +1,6 @@
 -- What a reply to "why" tells, a larger allowance, and that a "no" is always explained. Assumes nothing.
 use mathlib.Core.Path.{_≡_, refl, sym, ap, _∙_}
-use mathlib.Core.Logic.{_≢_}
+use mathlib.Core.Logic.{inl, inr, _≢_}
 use Prim.Native.Nat.{ℕ, _^_, _≤_, _<_}
 use native.Mathlib.Omega.{arith}
 use Rattle.roster.specs.declared.Verdict.the-variants.{No}
@@ -75,7 +75,7 @@ module _ (a : Accounts) (P d t A allowance : ℕ) (wide : P < 2 ^ 32) (r : Expla
           }
       go (blocked e l b) =
           let x = k .reason e l b in
-          let n = reason-number (r .why) (x .0) in
+          let n = reason-number (merged a) P d t A (r .why) (x .0) in
           let blocks = blocks-of-persons a P d t A .0 b in
           record {
             refused = λ other. (λ v. absurd (unexplained v refl n), λ y. never (cc));
