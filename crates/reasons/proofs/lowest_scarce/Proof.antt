@@ -1,11 +1,11 @@
 -- No permission passed is scarce. Assumes nothing.
-use mathlib.Core.Path.{_≡_, sym, ap, _∙_}
+use mathlib.Core.Path.{_≡_, sym, _∙_}
 use mathlib.Core.Bool.{Bool, false}
 use mathlib.Core.List.{List}
-use Prim.Native.Nat.{ℕ, _+_, _-_, _≤_, _<_}
-use native.Mathlib.Decide.{decLt}
+use Prim.Native.Nat.{ℕ, _-_, _≤_, _<_}
 use native.Mathlib.Omega.{arith}
 use borrow.Author.Needs.{needs}
+use borrow.Author.Count.{below-more}
 use lib.Bits.{bitAnd}
 use Rattle.sets.specs.Arrays.{at}
 use Rattle.accounts.specs.Laws.First.{first-is}
@@ -16,14 +16,6 @@ use Rattle.reasons.proofs.lowest_scarce.Tie as tie
 -- what the code tests
 abbrev test : List ℕ → ℕ → ℕ → ℕ → ℕ → Bool
 test holders task crews free = scarceIn (λ p. bitAnd (at holders p) free) task crews
-
--- where none below k passes and k does not, none up to k does
-one-more : (f : ℕ → Bool) (k : ℕ) → ((i : ℕ) → i < k → f i ≡ false) → f k ≡ false → (i : ℕ) → i < k + 1 → f i ≡ false
-one-more f k before here i l = go (decLt i k)
-  where
-    go : Dec (i < k) → f i ≡ false
-    go (yes m) = before i m
-    go (no n) = let e : i ≡ k = omega arith in ap f e ∙ here
 
 abbrev Inv-loop : tie.InvT-loop
 Inv-loop holders task crews free permission₀ permission =
@@ -55,7 +47,7 @@ loop-again c =
     let s = c .before .before .before .before .args in
     let l = c .before .before .before .loop in (
       omega (arith, c .before .before .loop-test .taken),
-      one-more (test (s .holders .now) (s .task) (s .crews) (s .free)) (l .permission) (l .inv .1) (sym (c .before .scarce .ensures) ∙ c .if1 .left),
+      below-more (λ i. test (s .holders .now) (s .task) (s .crews) (s .free) i ≡ false) (l .permission) (l .inv .1) (sym (c .before .scarce .ensures) ∙ c .if1 .left),
     )
 
 returns-2 : tie.Need-returns-2 Inv-loop μ-loop

@@ -1,7 +1,6 @@
 -- The lowest scarce permission is the first of the 32 that passes the test; there is one only. Assumes nothing.
-use mathlib.Core.Path.{_≡_, refl, sym, ap, ap₂, _∙_}
-use mathlib.Core.Bool.{Bool, true, false, _&&_}
-use mathlib.Core.Logic.{_⊎_, inl, inr}
+use mathlib.Core.Path.{_≡_, refl, sym, ap₂, _∙_}
+use mathlib.Core.Bool.{Bool, true, false, true≢false, _&&_}
 use Prim.Native.Nat.{ℕ, _^_, _≤_, _<_}
 use native.Mathlib.Decide.{decLt}
 use native.Mathlib.Omega.{arith}
@@ -12,15 +11,14 @@ use Rattle.sets.specs.Sets.{Has, bit-high}
 use Rattle.sets.specs.Members.{hasb}
 use Rattle.sets.specs.Laws.Tests.{hasb-true, has-hasb}
 use Rattle.roster.specs.declared.Table.{Table}
-use Rattle.accounts.specs.Persons.{first}
 use Rattle.accounts.specs.Laws.First.{first-has, first-before, first-some}
 use Rattle.reasons.specs.Reasons.{holdersHere, Scarce, Lowest, NoneIs}
 use Rattle.reasons.specs.Replied.{scarceIn, lowestScarce}
 
 both : (x y : Bool) → (x && y) ≡ true → (x ≡ true) × (y ≡ true)
 both true true e = (refl, refl)
-both true false e = let z : _≡_ {A = ℕ} 0 1 = cc in absurd (omega arith)
-both false y e = let z : _≡_ {A = ℕ} 0 1 = cc in absurd (omega arith)
+both true false e = absurd (true≢false (sym e))
+both false y e = absurd (true≢false (sym e))
 
 -- ---- the test
 
@@ -35,15 +33,12 @@ module _ (there : ℕ → ℕ) (P d p : ℕ) where
 
 -- ---- the first that passes it
 
-clash : {b : Bool} → b ≡ true → b ≡ false → ⊥
-clash y n = let z : _≡_ {A = ℕ} 0 1 = cc in omega arith
-
 module _ (table : Table) (P d A : ℕ) where
   pub lowest-scarce : lowestScarce table P d A < 32 → Lowest (Scarce table P d A) (lowestScarce table P d A)
   lowest-scarce l = (
     scarce-told (holdersHere table P A) P d (lowestScarce table P d A) (first-has (scarceIn (holdersHere table P A) P d) 32 l),
     λ q k s.
-        clash (scarce-tells (holdersHere table P A) P d q (s .0) (s .1)) (first-before (scarceIn (holdersHere table P A) P d) 32 q k),
+        true≢false (sym (scarce-tells (holdersHere table P A) P d q (s .0) (s .1)) ∙ first-before (scarceIn (holdersHere table P A) P d) 32 q k),
   )
 
   pub none-scarce : P < 2 ^ 32 → 32 ≤ lowestScarce table P d A → NoneIs (Scarce table P d A)

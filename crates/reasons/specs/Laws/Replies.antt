@@ -1,7 +1,7 @@
 -- Every "why" has a reply and only one: it falls under one of four kinds. Assumes nothing.
 use mathlib.Core.Path.{_≡_, sym, ap, ap₂, _∙_, subst}
 use mathlib.Core.Bool.{true, false}
-use mathlib.Core.Logic.{_⊎_, inl, inr, ⊎-elim}
+use mathlib.Core.Logic.{⊎-elim}
 use mathlib.Core.List.{List}
 use Prim.Native.Nat.{ℕ, _^_, _≤_, _<_}
 use native.Mathlib.Decide.{decLe}
@@ -51,7 +51,8 @@ module _ (a : Accounts) (P d t A : ℕ) (wide : P < 2 ^ 32) where
 
 -- ---- what is needed to be the reply of a kind
 
-never : {A : Type 0} → _≡_ {A = ℕ} 0 1 → A
+-- 0 is not 1
+pub never : {A : Type 0} → _≡_ {A = ℕ} 0 1 → A
 never e = absurd (omega arith)
 
 module _ (a : Accounts) (P d t A allowance : ℕ) (r : Explained) where

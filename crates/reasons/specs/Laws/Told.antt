@@ -21,10 +21,7 @@ use Rattle.reasons.specs.Reasons.{reasonNumber}
 use Rattle.reasons.specs.Replies.{needWhy, WhyReply}
 use Rattle.reasons.specs.Told.{PersonsReason, GivesReason, Tells}
 use Rattle.reasons.specs.Laws.Persons.{reason-number, reason-persons}
-use Rattle.reasons.specs.Laws.Replies.{Kind, refused, undecided, nothing, blocked, why-kind, is-reason, why-same}
-
-never : {A : Type 0} → _≡_ {A = ℕ} 0 1 → A
-never e = absurd (omega arith)
+use Rattle.reasons.specs.Laws.Replies.{Kind, refused, undecided, nothing, blocked, why-kind, never, is-reason, why-same}
 
 module _ (a : Accounts) (P d t A allowance : ℕ) (wide : P < 2 ^ 32) (r : Explained) (k : WhyReply a P d t A allowance r) where
   -- the units of the named question: none, all that was allowed, or the need
