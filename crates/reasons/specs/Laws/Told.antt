@@ -10,6 +10,7 @@ use Rattle.absences.specs.Laws.Demands.{policy-exactly}
 use Rattle.absences.specs.Laws.Need.{blocker-need}
 use Rattle.accounts.specs.declared.Accounts.{Accounts}
 use Rattle.accounts.specs.Persons.{persons, merged}
+use Rattle.accounts.specs.Meaning.{PersonsBlock}
 use Rattle.accounts.specs.Laws.Merged.{crews-of-persons, blocks-of-persons}
 use Rattle.accounts.specs.Laws.Rulings.{ManyOrFew, many-or-few}
 use Rattle.questions.specs.Asked.{PolicyAsked, NamedAsked}
@@ -21,6 +22,7 @@ use Rattle.reasons.specs.Reasons.{reasonNumber}
 use Rattle.reasons.specs.Replies.{needWhy, WhyReply}
 use Rattle.reasons.specs.Told.{PersonsReason, GivesReason, Tells}
 use Rattle.reasons.specs.Laws.Persons.{reason-number, reason-persons}
+use Rattle.reasons.specs.Laws.Reasons.{reason-blocks}
 use Rattle.reasons.specs.Laws.Replies.{Kind, refused, undecided, nothing, blocked, why-kind, never, is-reason, why-same}
 
 module _ (a : Accounts) (P d t A allowance : ℕ) (wide : P < 2 ^ 32) (r : Explained) (k : WhyReply a P d t A allowance r) where
@@ -92,6 +94,11 @@ module _ (a : Accounts) (P d t A allowance : ℕ) (wide : P < 2 ^ 32) (r : Expla
       go (undecided e l) = absurd (n (ap Explained.why (k .undecided e l)))
       go (nothing e l crews c) = k .nothing e l crews c ∙ sym (m .nothing e (omega arith) crews c)
       go (blocked e l b) = let x = k .reason e l b in why-same a P d t A more wide r q (is-reason a P d t A more r e (omega arith) b (x .0) (x .1)) m
+
+-- an explanation explains: where a reason is true the absence blocks
+pub reason-explains : (a : Accounts) (P d t A : ℕ) → 1 ≤ d → (w : Explanation) → PersonsReason a P d t A w → PersonsBlock a P d t A
+reason-explains a P d t A some w x =
+    blocks-of-persons a P d t A .0 (reason-blocks (merged a) P d t A some w (reason-persons a P d t A w .1 x))
 
 -- ---- "no" is explained
 
