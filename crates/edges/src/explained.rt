@@ -1,7 +1,7 @@
-// Why a named absence blocks, as cases ask it: `why TABLE POLICY absent PERSONS`, written as the other questions are; and `all FILE`, the questions of
-// a file with a line for each, `why P d t EDITION ABSENT 0 0 ALLOWANCE row... -> ANSWER`. There bit i of ABSENT is person i, a row is HOLDINGS or
-// HOLDINGS:PERSON, and lines that begin with `#` are passed over; the edition and the two zeros are not looked at yet. An answer is the reason, 1, 2 or
-// 3, or `nothing`, `undecided` or `refused:N`; the permission of reason 1 as bit number, else `-`; and the units.
+// Why a named absence blocks, as cases ask it: `why TABLE POLICY absent PERSONS`, written as the other questions are; and `all FILE`, the questions
+// of a file with a line for each, `why P d t EDITION ABSENT 0 0 ALLOWANCE row... -> ANSWER`. There bit i of ABSENT is person i, a row is HOLDINGS or
+// HOLDINGS:PERSON, and lines that begin with `#` are passed over; the edition and the two zeros are not looked at yet. An answer is the reason, 1, 2
+// or 3, or `nothing`, `undecided` or `refused:N`; the permission of reason 1 as bit number, else `-`; and the units.
 use crate::asked::accounts_at;
 use crate::asked::allowance_at;
 use crate::asked::held_at;
