@@ -1,0 +1,5 @@
+-- what is taken from a book, and what is given back
+pub mod Filled
+pub mod Back
+-- the theorems
+pub mod Laws
