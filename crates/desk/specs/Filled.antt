@@ -1,10 +1,10 @@
 -- Request 07, for planners: the roster of a book in which no two rows share a person. Nothing here is proved: these are definitions, and they run.
 use mathlib.Core.Bool.{Bool, true, false}
 use mathlib.Core.Option.{Option, some, none}
-use mathlib.Core.List.{List, [], _∷_}
-use Prim.Native.Nat.{ℕ, zero, suc, _-_, _^_, min}
+use mathlib.Core.List.{List}
+use Prim.Native.Nat.{ℕ, _-_, _^_, min}
 use lib.Dec.{ltb}
-use lib.ListN.{length, getD}
+use lib.ListN.{length, getD, getElem?}
 use Rattle.sets.specs.Members.{members}
 use Rattle.sets.specs.Arrays.{tabulate, at}
 use Rattle.roster.specs.Limits.{rowLimit}
@@ -43,13 +43,12 @@ seated rows = seatedBy rows (length rows)
 abbrev pub whose : Row → Somebody
 whose row = record { staff = row .staff; permissions = members 0 32 (row .holdings) }
 
-unfoldable pub seatOf : List Row → ℕ → Option Somebody
-seatOf [] i = none
-seatOf (row ∷ rows) zero = some (whose row)
-seatOf (row ∷ rows) (suc i) = seatOf rows i
+abbrev pub seatOf : Option Row → Option Somebody
+seatOf none = none
+seatOf (some row) = some (whose row)
 
 abbrev pub plainRows : List Row → Plain
-plainRows rows = tabulate rowLimit (seatOf rows)
+plainRows rows = tabulate rowLimit (λ i. seatOf (getElem? rows i))
 
 -- "no two rows share a person": two do where there are fewer persons than rows (`shares-none`)
 abbrev pub sharing : Accounts → Bool

@@ -1,2 +1,5 @@
+pub mod Taken
+pub mod Seated
+pub mod Back
 pub mod Least
 pub mod Order
