@@ -1,49 +1,30 @@
--- What is given back: of any roster in which nobody stands twice, rows that the writer takes; of a roster just filled from a book, that book in the
--- old form. Assumes nothing.
-use mathlib.Core.Path.{_≡_, refl, sym, ap, ap₂, _∙_, subst}
+-- What is given back: of any roster in which nobody stands twice, rows that the writer takes; of a roster just filled, its rows. Assumes nothing.
+use mathlib.Core.Path.{_≡_, refl, sym, ap, ap₂, _∙_}
 use mathlib.Core.Option.{Option, some, none}
-use mathlib.Core.List.{List, [], _∷_, _++_, map, List·Memᴰ, List·Memᴰ·head}
+use mathlib.Core.List.{List, [], _∷_, map, List·Memᴰ·head}
 use Prim.Native.Nat.{ℕ, zero, suc, _+_, _-_, _^_, _≤_, _<_}
-use native.Mathlib.Decide.{decLt}
 use native.Mathlib.Omega.{arith}
-use lib.Count.{ones, onesIn}
-use lib.ListN.{length, getD, drop, length-map}
+use lib.Count.{onesIn}
+use lib.ListN.{length, getD, length-map}
 use lib.Seq.{ext-getD}
-use Rattle.sets.specs.Sets.{bit, Has, bit-below, bit-high, lt-of-bits, lt-pow, ones-bound, ones-width}
+use Rattle.sets.specs.Sets.{bit, Has, bit-below, lt-pow, ones-bound, ones-width}
 use Rattle.sets.specs.Arrays.{tabulate, at}
-use Rattle.sets.specs.Laws.Arrays.{length-tabulate, at-tabulate, at-past}
-use Rattle.accounts.specs.Meaning.{Different}
-use Rattle.book.specs.Layout.{Contents, bytesOf, Own, Each, Below, Ascends, Admitted}
-use Rattle.book.specs.Reading.{readOf}
-use Rattle.book.specs.Parts.{contentsOf, accountsIn}
-use Rattle.book.specs.Promises.{Bytes}
-use Rattle.book.specs.Laws.Books.{good-layout}
-use Rattle.book.specs.Laws.Old.{ascending, old-different}
-use Rattle.book.specs.Laws.Parts.{each-nth, layout-parts}
-use Rattle.book.specs.Laws.Values.{each}
+use Rattle.sets.specs.Laws.Arrays.{length-tabulate, at-tabulate}
+use Rattle.book.specs.Layout.{Contents, Each, Below, Ascends, Admitted}
+use Rattle.book.specs.Laws.Old.{ascending}
 use Rattle.book.specs.declared.Form.the-variants.{Old}
-use Rattle.book.specs.declared.Reading.the-variants as read
 use Rattle.book.specs.declared.Row.{Row}
-use Rattle.book.specs.declared.Starts.{Starts}
-use Rattle.values.specs.Values.{nobody, contentsFor, valuesFor, valuesOf}
-use Rattle.values.specs.Writing.{Writes}
-use Rattle.values.specs.Laws.Admitted.{admitted-none}
+use Rattle.values.specs.Values.{nobody, contentsFor, valuesFor}
 use Rattle.values.specs.Laws.OfBook.{values-for}
-use Rattle.values.specs.declared.Values.{Values}
-use Rattle.values.specs.declared.Wrote.{Wrote}
-use Rattle.values.specs.declared.Wrote.the-variants.{Written}
 use Rattle.live.specs.Plain.{Somebody, Plain}
 use Rattle.live.specs.Agrees.{Stands, Agrees}
 use Rattle.live.specs.Laws.Gathering.{map-at}
 use Rattle.live.specs.Laws.Twice.{Once}
 use Rattle.live.specs.declared.Roster.{Roster}
-use Rattle.desk.specs.Filled.{seated, plainRows, filledFrom}
-use Rattle.desk.specs.Back.{ownRow, placesBy, rowsBack, inArray, givenBack, inOldForm}
+use Rattle.desk.specs.Filled.{seated}
+use Rattle.desk.specs.Back.{ownRow, placesBy, rowsBack, givenBack}
 use Rattle.desk.specs.Laws.Order.{Rises, Strict, Distinct, order-same, order-strict, places-many}
-use Rattle.desk.specs.Laws.Taken.{values-good, shares-none, filled-taken}
-use Rattle.desk.specs.Laws.Seated.{nth, first-places, first-fit, occupied-is, staff-at, held-at, seated-agrees, seated-once}
-use Rattle.desk.specs.declared.Filled.{Filled}
-use Rattle.desk.specs.declared.Intake.the-variants as intake
+use Rattle.desk.specs.Laws.Seated.{nth, first-places, first-fit, occupied-is, staff-at, held-at}
 
 -- ---- any roster in which nobody stands twice
 
@@ -157,23 +138,3 @@ module _ (rows : List Row) (few : length rows ≤ 64) (up : Ascends (λ row. row
           map-at nobody at-place (tabulate (length rows) (λ i. 0 + i)) i (omega (arith, length-tabulate (length rows) (λ i. 0 + i)))
           ∙ ap at-place (at-tabulate (length rows) (λ i. 0 + i) i b ∙ z)
           ∙ ap₂ ownRow (staff-at rows few i (omega arith)) (held-at rows few i (omega arith))
-
--- ---- of a book
-
--- fewer permissions than 32 are 32 at most
-narrower : (k x : ℕ) → k ≤ 32 → x < 2 ^ k → x < 2 ^ 32
-narrower k x h l = lt-of-bits 32 x (λ i b. bit-high x k i l (omega arith))
-
-module _ (book : List ℕ) (s : Starts) (bytes : Bytes book) (good : readOf book ≡ read.Good s) where
-  ok : Admitted (contentsOf book)
-  ok = good-layout book s bytes good .admitted
-
-  narrow : Each (λ row. row .holdings < 2 ^ 32) (contentsOf book .rows)
-  narrow = each (λ row h. narrower (length (contentsOf book .codes)) (row .holdings) (ok .permissions) h) (contentsOf book .rows) (ok .holdings)
-
-  -- "the roster of such a book has the holdings of its rows", and nobody stands twice in it
-  pub book-agrees : Agrees (seated (contentsOf book .rows)) (plainRows (contentsOf book .rows))
-  book-agrees = seated-agrees (contentsOf book .rows) (ok .rows) narrow
-
-  pub book-once : Once (plainRows (contentsOf book .rows))
-  book-once = seated-once (contentsOf book .rows) (ok .rows) (ok .staffAscends)

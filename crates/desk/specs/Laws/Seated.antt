@@ -186,17 +186,21 @@ module _ (rows : List Row) (few : length rows ≤ 64) where
       (λ i b. at-tabulate 64 (at (map (at (seated rows .holdings)) (tabulate (length rows) (λ i. 0 + i)))) i b ∙ table-at i b (decLt i (length rows))))
       (ap length places-are ∙ length-tabulate (length rows) (λ i. 0 + i))
 
+  -- what is below a bound in every row is so at every place
+  pub column-fit : (f : Row → ℕ) (m : ℕ) → f nobody < m → Each (λ row. f row < m) rows → (i : ℕ) → at (tabulate 64 (λ i. f (row i))) i < m
+  column-fit f m z h i = go (decLt i 64) (decLt i (length rows))
+    where
+      go : Dec (i < 64) → Dec (i < length rows) → at (tabulate 64 (λ i. f (row i))) i < m
+      go (yes b) (yes l) = rw (at-tabulate 64 (λ i. f (row i)) i b) (each-nth (λ row. f row < m) rows i (row i) h (nth nobody rows i l))
+      go (yes b) (no d) = rw (at-tabulate 64 (λ i. f (row i)) i b) (rw (past i (omega arith)) z)
+      go (no d) l = rw (at-past 64 (λ i. f (row i)) i (omega arith)) (omega (arith, z))
+
   -- ---- holdings of at most 32 permissions
 
   module _ (narrow : Each (λ row. row .holdings < 2 ^ 32) rows) where
-    fits : (i : ℕ) → Dec (i < length rows) → row i .holdings < 2 ^ 32
-    fits i (yes b) = each-nth (λ row. row .holdings < 2 ^ 32) rows i (row i) narrow (nth nobody rows i b)
-    fits i (no d) = rw (past i (omega arith)) (omega arith)
-
-    held-fit : (i : ℕ) → Dec (i < 64) → at (seated rows .holdings) i < 2 ^ 32
+    held-fit : (i : ℕ) → at (seated rows .holdings) i < 2 ^ 32
     unfolding seatedBy
-    held-fit i (yes b) = rw (held-at i b) (fits i (decLt i (length rows)))
-    held-fit i (no d) = rw (at-past 64 (λ i. row i .holdings) i (omega arith)) (omega arith)
+    held-fit i = column-fit Row.holdings (2 ^ 32) (omega arith) narrow i
 
     sets-fit : (p : ℕ) → Dec (p < 32) → at (seated rows .holders) p < 2 ^ 64
     unfolding seatedBy
@@ -218,7 +222,7 @@ module _ (rows : List Row) (few : length rows ≤ 64) where
               ∙ toN-hasb (at (seated rows .holdings) i) p;
           fits = record {
             occupied = rw occupied-is (first-fit (length rows) few);
-            holdings = λ i. held-fit i (decLt i 64);
+            holdings = held-fit;
             holders = λ p. sets-fit p (decLt p 32);
             staff-long = length-tabulate 64 (λ i. row i .staff);
             holdings-long = length-tabulate 64 (λ i. row i .holdings);
