@@ -33,7 +33,8 @@ unfolding Each
 each-map P f [] h = tt
 each-map P f (x ∷ l) h = (h x, each-map P f l h)
 
-strict-ascends : (staff holdings l : List ℕ) → Strict staff l → Ascends (λ row. row .staff) (map (λ place. ownRow (at staff place) (at holdings place)) l)
+strict-ascends : (staff holdings l : List ℕ) → Strict staff l
+    → Ascends (λ row. row .staff) (map (λ place. ownRow (at staff place) (at holdings place)) l)
 unfolding Ascends Below
 strict-ascends staff holdings [] s = tt
 strict-ascends staff holdings (x ∷ []) s = (tt, tt)
@@ -44,7 +45,8 @@ abbrev pub backOf : Roster → Contents → Contents
 backOf r v = record { form = Old; codes = v .codes; rows = rowsBack (r .staff) (r .holdings) (r .occupied); policies = v .policies }
 
 module _ (r : Roster) (l : Plain) (a : Agrees r l) (once : Once l) where
-  somebody : (u : ℕ) (o : Option Somebody) → getD l u none ≡ o → Stands o (bit (r .occupied) u) (at (r .staff) u) (at (r .holdings) u) → Has (r .occupied) u
+  somebody : (u : ℕ) (o : Option Somebody) → getD l u none ≡ o → Stands o (bit (r .occupied) u) (at (r .staff) u) (at (r .holdings) u)
+      → Has (r .occupied) u
       → (s : Somebody) × (getD l u none ≡ some s) × (s .staff ≡ at (r .staff) u)
   somebody u none e s h = absurd (omega (arith, s .0))
   somebody u (some t) e s h = (t, e, sym (s .1))

@@ -87,7 +87,8 @@ module _ (book : List ℕ) (s : Starts) (bytes : Bytes book) (good : readOf book
   -- the roster of its rows is what a plain list of them says, and nobody stands in it twice
   pub book-agrees : Agrees (seated rows) (plainRows rows)
   book-agrees =
-      seated-agrees rows (ok .rows) (each (λ row h. narrower (length (contentsOf book .codes)) (row .holdings) (ok .permissions) h) rows (ok .holdings))
+      seated-agrees rows (ok .rows)
+      (each (λ row h. narrower (length (contentsOf book .codes)) (row .holdings) (ok .permissions) h) rows (ok .holdings))
 
   pub book-once : Once (plainRows rows)
   book-once = seated-once rows (ok .rows) (ok .staffAscends)
@@ -96,7 +97,8 @@ module _ (book : List ℕ) (s : Starts) (bytes : Bytes book) (good : readOf book
   pub book-table : tableOf (seated rows) ≡ rowByRow (accountsIn book)
   book-table =
       seated-table rows (ok .rows)
-      ∙ ap {B = Table} (λ (f : ℕ → Row). record { holdings = tabulate rowLimit (λ i. f i .holdings); rows = length rows }) (fun-ext (λ i. sym (row-or rows i)))
+      ∙ ap {B = Table} (λ (f : ℕ → Row). record { holdings = tabulate rowLimit (λ i. f i .holdings); rows = length rows })
+      (fun-ext (λ i. sym (row-or rows i)))
       ∙ sym (ap rowByRow accounts-are)
 
   numbers : (i : ℕ) → at (seated rows .staff) i < 2 ^ 32
@@ -132,7 +134,8 @@ module _ (book : List ℕ) (s : Starts) (bytes : Bytes book) (good : readOf book
     λ d. ap Filled.intake (filled-taken book s good (shares-none (accountsIn book) few .1 d)),
   )
     where
-      all : filledFrom book .intake ≡ intake.Taken → Dec (persons (accountsIn book) < accountsIn book .rows) → accountsIn book .rows ≤ persons (accountsIn book)
+      all : filledFrom book .intake ≡ intake.Taken → Dec (persons (accountsIn book) < accountsIn book .rows)
+          → accountsIn book .rows ≤ persons (accountsIn book)
       all e (yes l) = let q = ap Filled.intake (filled-shared book s good l) in let z : _≡_ {A = ℕ} 0 1 = cc in absurd (omega arith)
       all e (no n) = omega arith
 
@@ -154,7 +157,8 @@ module _ (book : List ℕ) (s : Starts) (bytes : Bytes book) (good : readOf book
     book-taken = filled-taken book s good (shares-none (accountsIn book) few .1 different)
 
     -- asked of the roster, a question has the reply that it has of the book
-    pub policy-as-book : (way : Way) (P away d t allowance : ℕ) → P < 2 ^ 32 → (r q : Reply) → PolicyAsked way (accountsIn book) P away d t allowance r
+    pub policy-as-book : (way : Way) (P away d t allowance : ℕ) → P < 2 ^ 32 → (r q : Reply)
+        → PolicyAsked way (accountsIn book) P away d t allowance r
         → PolicyReply way (tableOf (filledFrom book .roster)) P away d t allowance q → r ≡ q
     policy-as-book way P away d t allowance wide r q k m =
         policy-as-before (accountsIn book) different way P away d t allowance wide r q k
@@ -184,7 +188,8 @@ module _ (book : List ℕ) (s : Starts) (bytes : Bytes book) (good : readOf book
 
     same-contents : inOldForm (contentsOf book) ≡ contentsOf book
     same-contents =
-        ap₂ {C = Contents} (λ (f : Form) (l : List Row). record { form = f; codes = contentsOf book .codes; rows = l; policies = contentsOf book .policies })
+        ap₂ {C = Contents}
+        (λ (f : Form) (l : List Row). record { form = f; codes = contentsOf book .codes; rows = l; policies = contentsOf book .policies })
         (sym old-form) (own-rows rows (subst (λ (f : Form). Each (Own (hasPersons f)) rows) old-form (ok .own)))
 
     pub writes-same-book : (old new : List ℕ) (r : Wrote) → Writes (contentsFor (givenBack (filledFrom book .roster) (valuesOf book))) old new r

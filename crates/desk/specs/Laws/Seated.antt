@@ -84,7 +84,8 @@ unfolding members tabulate
 members-first k zero m zero b f g = refl
 members-first k zero m (suc n) b f g = absurd (omega arith)
 members-first k (suc w) m zero b f g =
-    members-out k w m (g 0 (omega arith)) ∙ members-first (suc k) w (m / 2) zero (omega arith) (λ i l. absurd (omega arith)) (λ i l. sym (bit-suc m i) ∙ g (suc i) (omega arith))
+    members-out k w m (g 0 (omega arith))
+    ∙ members-first (suc k) w (m / 2) zero (omega arith) (λ i l. absurd (omega arith)) (λ i l. sym (bit-suc m i) ∙ g (suc i) (omega arith))
 members-first k (suc w) m (suc n) b f g =
     let z : k ≡ k + 0 = omega arith in
     members-in k w m (f 0 (omega arith))
@@ -164,7 +165,8 @@ module _ (rows : List Row) (few : length rows ≤ 64) where
       go (no b) (no c) = omega arith
 
   -- the table of the occupied places is that of the rows
-  table-at : (i : ℕ) → i < 64 → Dec (i < length rows) → at (map (at (seated rows .holdings)) (tabulate (length rows) (λ i. 0 + i))) i ≡ row i .holdings
+  table-at : (i : ℕ) → i < 64 → Dec (i < length rows)
+      → at (map (at (seated rows .holdings)) (tabulate (length rows) (λ i. 0 + i))) i ≡ row i .holdings
   table-at i b (yes l) =
       let z : 0 + i ≡ i = omega arith in
       map-at 0 (at (seated rows .holdings)) (tabulate (length rows) (λ i. 0 + i)) i (omega (arith, length-tabulate (length rows) (λ i. 0 + i)))
