@@ -12,7 +12,8 @@ ghost use Rattle.absences.specs.Tried.{full, skipping};
 ghost use Rattle.absences.specs.Asked.{PolicyReply};
 ghost use Rattle.crews.specs.Named.{NamedReply};
 ghost use Rattle.live.specs.Numbers.{objectionNumber};
-ghost use Rattle.live.specs.Changes.{empty, placeIn, freeIn, refusing, done, hiredAt, clearedOf, leftAt, grantedAt, revokedAt, hire, leave, grant, revoke, toldOf, gatheredOf, tableOf};
+ghost use Rattle.live.specs.Changes.{hire, leave, grant, revoke, toldOf, empty, refusing, done, gatheredOf, tableOf};
+ghost use Rattle.live.specs.Changes.{placeIn, freeIn, hiredAt, clearedOf, leftAt, grantedAt, revokedAt, turnedAt, changedBy};
 
 // Who stands at which place: bit i of `occupied` says that place i is taken. A place that is not has staff number 0 and holdings 0, and stands
 // in no set of `holders`.
@@ -234,6 +235,17 @@ impl Roster {
         next
     }
 
+    // Whoever is at this place with this permission, or without it.
+    fn turned(self, place: usize, permission: usize, granting: bool) -> Roster
+        requires { ⌜ (place < rowLimit) × (permission < 32) ⌝ }
+        ensures { λ r. ⌜ r ≡ turnedAt granting place permission self ⌝ }
+    {
+        if granting {
+            return self.granted(place, permission);
+        }
+        self.revoked(place, permission)
+    }
+
     // This staff number takes the lowest free place, with no holdings.
     pub fn hire(self, number: u32) -> Told
         ensures { λ r. ⌜ r ≡ toldOf self (hire number) ⌝ }
@@ -262,32 +274,33 @@ impl Roster {
         }
     }
 
-    // This staff number holds this permission from now on.
-    pub fn grant(self, number: u32, permission: u32) -> Told
-        ensures { λ r. ⌜ r ≡ toldOf self (grant number permission) ⌝ }
+    // Whoever has this staff number, with this permission or without it.
+    fn changed(self, number: u32, permission: u32, granting: bool) -> Told
+        ensures { λ r. ⌜ r ≡ changedBy granting number permission self ⌝ }
     {
         if permission > 31 {
             return self.refusing(Objection::Permission);
         }
         let staff = self.staff;
         match place_of(&staff, self.occupied, number) {
-            Place::At(place) => self.granted(place, permission as usize).done(place),
+            Place::At(place) => self.turned(place, permission as usize, granting)
+                .done(place),
             Place::Nowhere => self.refusing(Objection::Nobody),
         }
+    }
+
+    // This staff number holds this permission from now on.
+    pub fn grant(self, number: u32, permission: u32) -> Told
+        ensures { λ r. ⌜ r ≡ toldOf self (grant number permission) ⌝ }
+    {
+        self.changed(number, permission, true)
     }
 
     // This staff number does not hold this permission from now on.
     pub fn revoke(self, number: u32, permission: u32) -> Told
         ensures { λ r. ⌜ r ≡ toldOf self (revoke number permission) ⌝ }
     {
-        if permission > 31 {
-            return self.refusing(Objection::Permission);
-        }
-        let staff = self.staff;
-        match place_of(&staff, self.occupied, number) {
-            Place::At(place) => self.revoked(place, permission as usize).done(place),
-            Place::Nowhere => self.refusing(Objection::Nobody),
-        }
+        self.changed(number, permission, false)
     }
 
     // The table of the occupied places, in place order: replies speak of its rows.

@@ -46,7 +46,8 @@ loop-again : tie.Need-loop-again Inv-loop μ-loop
 loop-again c =
     let s = c .before .before .before .before .args in
     let l = c .before .before .before .loop in
-    passed-stored 0 32 (without (s .holders .now) (s .place)) (l .permission) (c .without-place .result) (l .next) (l .inv) (c .before .before .loop-test .taken)
+    passed-stored 0 32 (without (s .holders .now) (s .place)) (l .permission) (c .without-place .result) (l .next) (l .inv)
+    (c .before .before .loop-test .taken)
     (c .without-place .ensures)
 
 returns : tie.Need-returns Inv-loop μ-loop

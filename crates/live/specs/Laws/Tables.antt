@@ -54,7 +54,8 @@ gather f from k (suc w) m (x ∷ l) e h = go x (h 0 (omega arith)) (gather f fro
         ap (map (at from)) (members-in k w m (s .0)) ∙ ap₂ (λ (v : ℕ) (r : List ℕ). v ∷ r) (ap (at from) q ∙ s .1) ih
 
 module _ (r : Roster) (l : Plain) (a : Agrees r l) where
-  held-of : (i : ℕ) → (o : Option Somebody) → Stands o (bit (r .occupied) i) (at (r .staff) i) (at (r .holdings) i) → Has-of heldBy o (bit (r .occupied) i) (at (r .holdings) i)
+  held-of : (i : ℕ) → (o : Option Somebody) → Stands o (bit (r .occupied) i) (at (r .staff) i) (at (r .holdings) i)
+      → Has-of heldBy o (bit (r .occupied) i) (at (r .holdings) i)
   held-of i none s = s .0
   held-of i (some t) s = (
     s .0,
@@ -62,7 +63,8 @@ module _ (r : Roster) (l : Plain) (a : Agrees r l) where
         (λ p b. s .2 p b ∙ sym (setOf-bit 32 (λ p. member p (t .permissions)) p b)),
   )
 
-  staff-of : (i : ℕ) → (o : Option Somebody) → Stands o (bit (r .occupied) i) (at (r .staff) i) (at (r .holdings) i) → Has-of (λ s. s .staff) o (bit (r .occupied) i) (at (r .staff) i)
+  staff-of : (i : ℕ) → (o : Option Somebody) → Stands o (bit (r .occupied) i) (at (r .staff) i) (at (r .holdings) i)
+      → Has-of (λ s. s .staff) o (bit (r .occupied) i) (at (r .staff) i)
   staff-of i none s = s .0
   staff-of i (some t) s = (s .0, s .1)
 
@@ -95,7 +97,8 @@ pub numbers-always : (calls : List Call) → gatheredOf (after calls .occupied) 
 numbers-always calls = numbers-of-plain (after calls) (plainAfter calls) (agrees calls)
 
 -- "A policy asked of the roster has the reply of the table of occupied places in place order": of the plain list's own table
-pub policy-of-plain : (calls : List Call) (way : Way) (P s d t allowance : ℕ) (reply : Reply) → PolicyReply way (tableOf (after calls)) P s d t allowance reply
+pub policy-of-plain : (calls : List Call) (way : Way) (P s d t allowance : ℕ) (reply : Reply)
+    → PolicyReply way (tableOf (after calls)) P s d t allowance reply
     → PolicyReply way (plainTable (plainAfter calls)) P s d t allowance reply
 policy-of-plain calls way P s d t allowance reply h = subst (λ (x : Table). PolicyReply way x P s d t allowance reply) (table-always calls) h
 
