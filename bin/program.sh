@@ -33,10 +33,12 @@ build() { # NAME
     : >"$built"
 }
 
-# Runs the program on standard input and ends with status 0, or 1 if it complains or does not end by itself: a program has no status of its own,
-# and what it complains of goes to standard error, where it says nothing else. It is a program for x86-64 and runs under the kit's loader and C
-# library; on another processor the kit has an emulator beside its compiler.
-run() { # NAME
+# Runs the program on standard input, with the arguments if there are any, and ends with status 0, or 1 if it complains or does not end by itself: a
+# program has no status of its own, and what it complains of goes to standard error, where it says nothing else. It is a program for x86-64 and runs
+# under the kit's loader and C library; on another processor the kit has an emulator beside its compiler.
+run() { # NAME ARGUMENT..
+    program=$root/target/bin/$1
+    shift
     tools=$kit/on/$(uname -m)/toolchain
     loader=$tools/lib/ld-linux-x86-64.so.2 emulator=$tools/bin/qemu-x86_64
     [ -x "$emulator" ] || emulator=''
@@ -44,7 +46,7 @@ run() { # NAME
     (: 3<&0) 2>/dev/null || die "standard input cannot be read"
     (: 3>&1) 2>/dev/null || die "the output cannot be written"
     status=0
-    { complaint=$(${emulator:+"$emulator"} "$loader" --library-path "$tools/lib" "$root/target/bin/$1" 2>&1 >&3 3>&-) || status=1; } 3>&1
+    { complaint=$(${emulator:+"$emulator"} "$loader" --library-path "$tools/lib" "$program" "$@" 2>&1 >&3 3>&-) || status=1; } 3>&1
     [ -z "$complaint" ] || { status=1; printf '%s\n' "$complaint" >&2 || :; }
     exit "$status"
 }
