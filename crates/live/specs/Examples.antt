@@ -15,7 +15,8 @@ use Rattle.roster.specs.Refusals.{policyRuling, namedRuling}
 use Rattle.crews.specs.Filling.{placeOf, closeOf, placedOf, candidates, tryEach, search}
 use Rattle.absences.specs.Tried.{rowFrom, full, skipping, joins, listed, sizesFrom, weighed}
 use Rattle.absences.specs.Replied.{policyReplyOf}
-use Rattle.absences.specs.Examples.{Example, policy, named, H, tableOf as tableWith, setOfRows, yes-with, no-with, crews-with, none-with, ample, AllAllowed, all-allowed}
+use Rattle.absences.specs.Examples.{Example, policy, named, H, tableOf as tableWith, setOfRows, yes-with, no-with, crews-with, none-with, ample}
+use Rattle.absences.specs.Examples.{AllAllowed, all-allowed}
 use Rattle.live.specs.Changes.{Call, hire, leave, grant, revoke, firstFrom, toldOf, empty, gatheredOf, tableOf}
 use Rattle.live.specs.Numbers.{objectionNumber}
 use Rattle.live.specs.declared.Roster.{Roster}

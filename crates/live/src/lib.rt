@@ -45,7 +45,7 @@ pub struct Told {
 }
 
 // Where somebody stands.
-pub enum Place {
+enum Place {
     At(usize),
     Nowhere,
 }

@@ -110,7 +110,8 @@ module _ (rows : List Row) (few : length rows ≤ 64) (up : Ascends (λ row. row
   rises : Rises (seated rows .staff) (2 ^ length rows - 1)
   rises i j b x y =
       let c = bit-below (2 ^ length rows - 1) (length rows) j (omega (arith, lt-pow (length rows))) y in
-      let less = ascending (λ row. row .staff) rows i j (getD rows i nobody) (getD rows j nobody) up b (nth nobody rows i (omega (arith, c))) (nth nobody rows j c) in
+      let first = nth nobody rows i (omega (arith, c)) in
+      let less = ascending (λ row. row .staff) rows i j (getD rows i nobody) (getD rows j nobody) up b first (nth nobody rows j c) in
       omega (arith, less, staff-at rows few i (omega (arith, c)), staff-at rows few j (omega (arith, c)))
 
   in-order : placesBy (seated rows .staff) (seated rows .occupied) ≡ tabulate (length rows) (λ i. 0 + i)

@@ -21,7 +21,7 @@ use Rattle.accounts.specs.Meaning.{rowByRow, Different}
 use Rattle.accounts.specs.declared.Accounts.{Accounts}
 use Rattle.questions.specs.Asked.{PolicyAsked, NamedAsked}
 use Rattle.questions.specs.Laws.Replies.{policy-as-before, named-as-before}
-use Rattle.book.specs.Layout.{Contents, hasPersons, bytesOf, Own, Each, Admitted}
+use Rattle.book.specs.Layout.{Contents, hasPersons, bytesOf, Own, Each, Ascends, Admitted}
 use Rattle.book.specs.Reading.{readOf}
 use Rattle.book.specs.Parts.{rowOr0, contentsOf, accountsIn}
 use Rattle.book.specs.Promises.{Bytes, rowBy, accountsFor}
@@ -40,14 +40,17 @@ use Rattle.values.specs.Laws.Admitted.{admitted-none}
 use Rattle.values.specs.declared.Values.{Values}
 use Rattle.values.specs.declared.Wrote.{Wrote}
 use Rattle.values.specs.declared.Wrote.the-variants.{Written}
-use Rattle.live.specs.Changes.{tableOf}
+use Rattle.live.specs.Changes.{Call, toldOf, afterFrom, tableOf}
+use Rattle.live.specs.Plain.{answerOf, plainFrom}
 use Rattle.live.specs.Agrees.{Agrees}
-use Rattle.live.specs.Laws.Twice.{Once}
+use Rattle.live.specs.Laws.Always.{always-from}
+use Rattle.live.specs.Laws.Twice.{Once, once-from}
+use Rattle.live.specs.declared.Roster.{Roster}
 use Rattle.desk.specs.Filled.{seatedBy, seated, plainRows, filledFrom}
-use Rattle.desk.specs.Back.{ownRow, givenBack, inOldForm}
+use Rattle.desk.specs.Back.{ownRow, rowsBack, givenBack, inOldForm}
 use Rattle.desk.specs.Laws.Taken.{filled-shared, filled-taken, values-good, shares-none}
 use Rattle.desk.specs.Laws.Seated.{column-fit, seated-agrees, seated-once, seated-table}
-use Rattle.desk.specs.Laws.Back.{backOf, back-admitted, back-contents, rows-back}
+use Rattle.desk.specs.Laws.Back.{backOf, back-ascends, back-admitted, back-contents, rows-back}
 use Rattle.desk.specs.declared.Filled.{Filled}
 use Rattle.desk.specs.declared.Intake.the-variants as intake
 
@@ -155,6 +158,22 @@ module _ (book : List ℕ) (s : Starts) (bytes : Bytes book) (good : readOf book
   module _ (different : Different (accountsIn book)) where
     pub book-taken : filledFrom book ≡ record { roster = seated rows; intake = intake.Taken }
     book-taken = filled-taken book s good (shares-none (accountsIn book) few .1 different)
+
+    -- and then any calls: the roster is what the plain list of the book's rows says after them, with the same answers, nobody stands twice, and the
+    -- rows that it gives back ascend
+    module _ (calls : List Call) where
+      abbrev later : Roster
+      later = afterFrom (filledFrom book .roster) calls
+
+      pub book-always : Agrees later (plainFrom (plainRows rows) calls)
+          × ((c : Call) → toldOf later c .outcome ≡ answerOf (plainFrom (plainRows rows) calls) c .outcome)
+      book-always = rw book-taken (always-from (seated rows) (plainRows rows) book-agrees calls)
+
+      pub book-nobody-twice : Once (plainFrom (plainRows rows) calls)
+      book-nobody-twice = once-from (plainRows rows) book-once calls
+
+      pub book-ascends : Ascends (λ row. row .staff) (rowsBack (later .staff) (later .holdings) (later .occupied))
+      book-ascends = back-ascends later (plainFrom (plainRows rows) calls) (book-always .0) book-nobody-twice
 
     -- asked of the roster, a question has the reply that it has of the book
     pub policy-as-book : (way : Way) (P away d t allowance : ℕ) → P < 2 ^ 32 → (r q : Reply)

@@ -25,15 +25,16 @@ use Rattle.crews.specs.Filling.{holdersOf}
 use Rattle.book.specs.Layout.{Each, Ascends}
 use Rattle.book.specs.Laws.Parts.{each-nth}
 use Rattle.book.specs.Laws.Old.{ascending}
+use Rattle.book.specs.Laws.View.{not-there}
 use Rattle.book.specs.declared.Row.{Row}
 use Rattle.values.specs.Values.{nobody}
-use Rattle.live.specs.Changes.{tableOf, gatheredOf}
-use Rattle.live.specs.Plain.{Somebody, Plain, member}
+use Rattle.live.specs.Changes.{tableOf}
+use Rattle.live.specs.Plain.{Somebody, member}
 use Rattle.live.specs.Agrees.{Stands, Agrees}
 use Rattle.live.specs.Laws.Lists.{member-here, member-next}
 use Rattle.live.specs.Laws.Gathering.{map-at, map-past}
 use Rattle.live.specs.Laws.Tables.{members-in, members-out}
-use Rattle.live.specs.Laws.Twice.{Once}
+use Rattle.live.specs.Laws.Twice.{Once, clash}
 use Rattle.desk.specs.Filled.{seatedBy, seated, whose, seatOf, plainRows}
 
 -- ---- an element of a list by its index
@@ -42,11 +43,6 @@ pub nth : {A : Type 0} (d : A) (l : List A) (i : ℕ) → i < length l → getEl
 nth d [] i b = absurd (omega arith)
 nth d (x ∷ l) zero b = refl
 nth d (x ∷ l) (suc i) b = nth d l i (omega arith)
-
-nth-past : {A : Type 0} (l : List A) (i : ℕ) → length l ≤ i → getElem? l i ≡ none
-nth-past [] i b = refl
-nth-past (x ∷ l) zero b = absurd (omega arith)
-nth-past (x ∷ l) (suc i) b = nth-past l i (omega arith)
 
 -- ---- a set's members as a list of permissions
 
@@ -90,7 +86,8 @@ members-first k (suc w) m (suc n) b f g =
     let z : k ≡ k + 0 = omega arith in
     members-in k w m (f 0 (omega arith))
     ∙ ap₂ (λ (x : ℕ) (l : List ℕ). x ∷ l) z
-    (members-first (suc k) w (m / 2) n (omega arith) (λ i l. sym (bit-suc m i) ∙ f (suc i) (omega arith)) (λ i l. sym (bit-suc m i) ∙ g (suc i) (omega arith))
+    (members-first (suc k) w (m / 2) n (omega arith) (λ i l. sym (bit-suc m i) ∙ f (suc i) (omega arith))
+    (λ i l. sym (bit-suc m i) ∙ g (suc i) (omega arith))
     ∙ ap (tabulate n) (fun-ext (λ i. omega arith)))
 
 pub first-places : (n : ℕ) → n ≤ 64 → members 0 64 (2 ^ n - 1) ≡ tabulate n (λ i. 0 + i)
@@ -124,7 +121,7 @@ module _ (rows : List Row) (few : length rows ≤ 64) where
   seat-in i b = ap seatOf (nth nobody rows i b)
 
   seat-out : (i : ℕ) → length rows ≤ i → seatOf (getElem? rows i) ≡ none
-  seat-out i b = ap seatOf (nth-past rows i b)
+  seat-out i b = ap seatOf (not-there rows i b)
 
   stands : (i : ℕ) → Dec (i < length rows) → Stands (seatOf (getElem? rows i)) (bit (2 ^ length rows - 1) i) (row i .staff) (row i .holdings)
   stands i (yes b) = rw (seat-in i b) (bit-full (length rows) i b, refl, λ p c. sym (member-bit (row i .holdings) p c))
@@ -139,9 +136,6 @@ module _ (rows : List Row) (few : length rows ≤ 64) where
   pub seated-once : Ascends (λ row. row .staff) rows → Once (plainRows rows)
   seated-once up i j s t e g q = go (decLt i j) (decLt j i)
     where
-      clash : {A : Type 0} (u : Somebody) → _≡_ {A = Option Somebody} none (some u) → A
-      clash u e = let z : _≡_ {A = ℕ} 0 1 = cc in absurd (omega arith)
-
       whose-is : (u : Somebody) (k : ℕ) → some (whose (row k)) ≡ some u → u .staff ≡ row k .staff
       whose-is u k x = let y : whose (row k) ≡ u = cc in sym (ap Somebody.staff y)
 

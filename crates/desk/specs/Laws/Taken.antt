@@ -1,19 +1,17 @@
 -- Which books are taken, and what each case of filling comes to: a good book is taken exactly if no two of its rows share a person. Assumes nothing.
-use mathlib.Core.Path.{_≡_, refl, sym, ap, ap₂, _∙_}
+use mathlib.Core.Path.{_≡_, sym, ap, _∙_}
 use mathlib.Core.Bool.{Bool, true, false}
 use mathlib.Core.Logic.{_⊎_, inl, inr, _↔_}
 use mathlib.Core.List.{List}
-use Prim.Native.Nat.{ℕ, zero, suc, _+_, _-_, _^_, _≤_, _<_, min}
+use Prim.Native.Nat.{ℕ, zero, suc, _+_, _-_, _≤_, _<_}
 use native.Mathlib.Decide.{decLt}
 use native.Mathlib.Omega.{arith}
-use lib.Dec.{ltb}
-use lib.ListN.{length, getD}
-use borrow.Author.Tests.{lt-ltb, le-ltb, ltb-true, ltb-false}
+use lib.ListN.{getD}
+use borrow.Author.Tests.{lt-ltb, le-ltb}
 use Rattle.sets.specs.Arrays.{tabulate, at}
 use Rattle.sets.specs.Laws.Sums.{either}
 use Rattle.sets.specs.Laws.Arrays.{length-tabulate, getD-tabulate, tabulated}
 use Rattle.roster.specs.Limits.{rowLimit}
-use Rattle.crews.specs.Filling.{holdersOf}
 use Rattle.accounts.specs.Persons.{firstOf, leads, countOf, persons, rowsOf}
 use Rattle.accounts.specs.Meaning.{Different}
 use Rattle.accounts.specs.Laws.Numbering as numbering
@@ -28,9 +26,7 @@ use Rattle.book.specs.declared.Reading.the-variants as read
 use Rattle.book.specs.declared.Row.{Row}
 use Rattle.book.specs.declared.Starts.{Starts}
 use Rattle.values.specs.Values.{nobody, valuesFor, contentsBy, valuesOf}
-use Rattle.live.specs.declared.Roster.{Roster}
 use Rattle.desk.specs.Filled.{seatedBy, seated, sharing, refusedWith, filledIf, filledBy, filledFrom}
-use Rattle.desk.specs.declared.Filled.{Filled}
 use Rattle.desk.specs.declared.Intake.the-variants as intake
 
 -- ---- the three cases
@@ -62,13 +58,16 @@ pub seated-values : (v : Contents) → seatedBy (valuesFor v .rows) (valuesFor v
 unfolding seatedBy valuesFor
 seated-values v = rw (staff, held)
   where
-    row : (i : ℕ) → i < 64 → getD (tabulate rowLimit (λ i. getD (v .rows) i nobody)) i nobody ≡ getD (v .rows) i nobody
+    array : List Row
+    array = tabulate rowLimit (λ i. getD (v .rows) i nobody)
+
+    row : (i : ℕ) → i < 64 → getD array i nobody ≡ getD (v .rows) i nobody
     row i b = getD-tabulate nobody 64 (λ i. getD (v .rows) i nobody) i b
 
-    staff : tabulate 64 (λ i. getD (tabulate rowLimit (λ i. getD (v .rows) i nobody)) i nobody .staff) ≡ tabulate 64 (λ i. getD (v .rows) i nobody .staff)
+    staff : tabulate 64 (λ i. getD array i nobody .staff) ≡ tabulate 64 (λ i. getD (v .rows) i nobody .staff)
     staff = table-same 0 64 _ _ (λ i b. ap Row.staff (row i b))
 
-    held : tabulate 64 (λ i. getD (tabulate rowLimit (λ i. getD (v .rows) i nobody)) i nobody .holdings) ≡ tabulate 64 (λ i. getD (v .rows) i nobody .holdings)
+    held : tabulate 64 (λ i. getD array i nobody .holdings) ≡ tabulate 64 (λ i. getD (v .rows) i nobody .holdings)
     held = table-same 0 64 _ _ (λ i b. ap Row.holdings (row i b))
 
 pub values-good : (book : List ℕ) (s : Starts) → readOf book ≡ read.Good s → valuesOf book ≡ valuesFor (contentsOf book)

@@ -83,7 +83,8 @@ module _ {A : Type 0} (d : A) (f : ℕ → A) (pick : ℕ → ℕ) (order : ℕ 
 
     pub goes-on : Gathered (k + 1) (takenOut rest place) (set next k (f place))
     goes-on =
-        let s : getD (order all) k 0 ∷ drop (suc k) (order all) ≡ place ∷ order (takenOut rest place) = sym (drop-cons (order all) k 0 below) ∙ next-come in
+        let s : getD (order all) k 0 ∷ drop (suc k) (order all) ≡ place ∷ order (takenOut rest place)
+        = sym (drop-cons (order all) k 0 below) ∙ next-come in
         let now : getD (order all) k 0 ≡ place = cc in
         let later : drop (suc k) (order all) ≡ order (takenOut rest place) = cc in
         record {

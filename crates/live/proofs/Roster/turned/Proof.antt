@@ -1,6 +1,6 @@
 -- A case for granting, and one for revoking. Assumes nothing.
 use borrow.Author.Needs.{needs}
-use mathlib.Core.Path.{_≡_, sym, ap, _∙_}
+use mathlib.Core.Path.{sym, ap, _∙_}
 use mathlib.Core.Bool.{Bool}
 use Rattle.live.specs.Changes.{turnedAt}
 use Rattle.live.proofs.Roster.turned.Statement.{statement}
