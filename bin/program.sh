@@ -33,18 +33,44 @@ build() { # NAME
     : >"$built"
 }
 
-# Runs the program on standard input and ends with status 0, or 1 if it complains or does not end by itself: a program has no status of its own,
-# and what it complains of goes to standard error, where it says nothing else. It is a program for x86-64 and runs under the kit's loader and C
-# library; on another processor the kit has an emulator beside its compiler.
+# Makes the book standard input: the one that is named, or what stands there already, in a copy, `book`, that can be read again. The copy has more
+# bytes than any book, so that what is said of them is said of all; one that goes on without an end is answered too. Status 1: no place for a copy.
+limit=4096
+open_book() { # [BOOK]
+    if [ $# -eq 1 ]; then
+        [ -r "$1" ] || die "cannot read $1"
+        exec <"$1"
+    fi
+    # a closed stream is told here: what is opened below could take its place
+    (: 3<&0) 2>/dev/null || die "standard input cannot be read"
+    (: 3>&1) 2>/dev/null || die "the output cannot be written"
+    book=$(mktemp 2>/dev/null) || return 1
+    trap 'rm -f "$book"' EXIT
+    trap 'exit 1' HUP INT PIPE TERM
+    head -c "$limit" >"$book" 2>/dev/null || die "standard input cannot be read"
+    exec <"$book"
+}
+
+# Runs the program on standard input. Status 1 if it complains or does not end by itself: a program has no status of its own, and what it complains
+# of goes to standard error, where it says nothing else. It is a program for x86-64 and runs under the kit's loader and C library; on another
+# processor the kit has an emulator beside its compiler.
 run() { # NAME
     tools=$kit/on/$(uname -m)/toolchain
     loader=$tools/lib/ld-linux-x86-64.so.2 emulator=$tools/bin/qemu-x86_64
     [ -x "$emulator" ] || emulator=''
-    # a closed stream is told here: the pipe below could take its place
-    (: 3<&0) 2>/dev/null || die "standard input cannot be read"
-    (: 3>&1) 2>/dev/null || die "the output cannot be written"
     status=0
     { complaint=$(${emulator:+"$emulator"} "$loader" --library-path "$tools/lib" "$root/target/bin/$1" 2>&1 >&3 3>&-) || status=1; } 3>&1
     [ -z "$complaint" ] || { status=1; printf '%s\n' "$complaint" >&2 || :; }
-    exit "$status"
+    return "$status"
+}
+
+# Prints TEXT, if there is any, with a newline.
+hand_out() { # TEXT
+    [ -z "$1" ] || printf '%s\n' "$1" 2>/dev/null || die "the output cannot be written"
+}
+
+# The book in words: all its fields, or with WORDS 1 what is wrong with it. SHEET is what the proved program printed of it.
+in_words() { # SHEET WORDS
+    verdict=$(printf '%s\n' "$1" | sed -n 1p)
+    od -An -v -tu1 "$book" | LC_ALL=C awk -v verdict="$verdict" -v words="$2" -v limit="$limit" -f "$root/bin/fields.awk"
 }

@@ -1,4 +1,5 @@
 pub mod Numbers
 pub mod Looks
+pub mod Fields
 pub mod Places
 pub mod Walks

@@ -9,9 +9,9 @@ use native.Mathlib.Omega.{arith}
 use lib.Dec.{leb, ltb}
 use lib.ListN.{length}
 use borrow.Author.Tests.{ltb-false, lt-ltb, le-ltb}
-use Rattle.book.specs.Reading.{Found, number, fieldsAt, entryAt, prior, notAbove, staffOf, wholeThen, countLook, entryLook, inTurn, countAt, sectionLooks, past, endLook, firstFault, rowsOf}
+use Rattle.book.specs.Reading.{number, fieldsAt, entryAt, prior, notAbove, staffOf, faultIf, countLook, entryLook, inTurn, countAt, sectionLooks, past, endLook, firstFault, rowsOf}
 use Rattle.book.specs.Laws.First.{not-faulty, first-append}
-use Rattle.book.specs.Steps.{leadIn, staysIn, outIn, countIn, lookIn, widthIn, stepFrom, pastEntry, startAt, looksIn, pastIn, stepIn}
+use Rattle.book.specs.Inner.Steps.{leadIn, staysIn, outIn, countIn, lookIn, widthIn, stepFrom, pastEntry, startAt, looksIn, pastIn, stepIn}
 use Rattle.book.specs.declared.Form.{Form}
 use Rattle.book.specs.declared.Form.the-variants.{Old, Persons}
 use Rattle.book.specs.declared.Fault.{Fault}
@@ -63,18 +63,19 @@ staff-stays form book c =
     ∙ ap (notAbove (staffOf (prior (entryAt (rowsOf form) book) (c .before)))) (staff-here form book (c .at))
 
 -- a sound look was at something whole
-pub whole : (book : List ℕ) (at wide : ℕ) (rest : Look) → wholeThen book at wide rest ≡ Sound → at + wide ≤ length book
-whole book at wide rest e = ltb-false _ _ (not-faulty _ _ _ e .0)
+pub whole : (book : List ℕ) (at wide place : ℕ) (rest : Look) → faultIf (ltb (length book) (at + wide)) fault.Short place rest ≡ Sound
+    → at + wide ≤ length book
+whole book at wide place rest e = ltb-false _ _ (not-faulty _ _ _ _ e .0)
 
 pub whole-count : (section : Section) (book : List ℕ) (at : ℕ) → countIn section book at ≡ Sound → at + 1 ≤ length book
-whole-count section book at e = whole book at 1 _ e
+whole-count section book at e = whole book at 1 _ _ e
 
 pub whole-entry : (form : Form) (section : Section) (book : List ℕ) (listed : ℕ) (before : Before) (at : ℕ)
     → lookIn form section book listed before at ≡ Sound → at + widthIn form section ≤ length book
 unfolding entryLook
-whole-entry form Permissions book listed before at e = whole book at _ _ e
-whole-entry form Rows book listed before at e = whole book at _ _ e
-whole-entry form Policies book listed before at e = whole book at _ _ e
+whole-entry form Permissions book listed before at e = whole book at _ _ _ e
+whole-entry form Rows book listed before at e = whole book at _ _ _ e
+whole-entry form Policies book listed before at e = whole book at _ _ _ e
 
 -- ---- one entry more
 
@@ -86,10 +87,10 @@ module _ (look : Before → ℕ → Look) (wide : ℕ) (c : Cursor) where
   step-none (suc n) h = let z : _≡_ {A = ℕ} 0 1 = omega arith in cc
 
   -- a faulty entry ends it
-  pub step-faulty : (n : ℕ) (f : Fault) → 0 < n → look (c .before) (c .at) ≡ Faulty f → stepFrom look wide c n ≡ step.Refused f (c .at)
+  pub step-faulty : (n : ℕ) (f : Fault) (at : ℕ) → 0 < n → look (c .before) (c .at) ≡ Faulty f at → stepFrom look wide c n ≡ step.Refused f at
   unfolding stepFrom firstFault inTurn
-  step-faulty zero f h e = let z : _≡_ {A = ℕ} 0 1 = omega arith in cc
-  step-faulty (suc n) f h e = rw e
+  step-faulty zero f at h e = let z : _≡_ {A = ℕ} 0 1 = omega arith in cc
+  step-faulty (suc n) f at h e = rw e
 
   -- a sound one is passed
   pub step-sound : (n : ℕ) → 0 < n → look (c .before) (c .at) ≡ Sound → stepFrom look wide c n ≡ stepFrom look wide (pastEntry c wide) (n - 1)
@@ -104,40 +105,40 @@ module _ (look : Before → ℕ → Look) (wide : ℕ) (c : Cursor) where
 
 module _ {R : Type 0} (refused : Fault → ℕ → R) (good : R) where
   -- a fault that a step tells is the fault of the whole
-  refused-look : (n : ℕ) {f : Fault} {p : ℕ} (k : Look) (at : ℕ) (l : List Found)
+  refused-look : (n : ℕ) {f : Fault} {p : ℕ} (k : Look) (l : List Look)
       → (firstFault step.Refused (step.Next n) l ≡ step.Refused f p → firstFault refused good l ≡ refused f p)
-      → elim k [ Sound ↦ firstFault step.Refused (step.Next n) l | Faulty g ↦ step.Refused g at ] ≡ step.Refused f p
-      → elim k [ Sound ↦ firstFault refused good l | Faulty g ↦ refused g at ] ≡ refused f p
-  refused-look n Sound at l ih e = ih e
-  refused-look n (Faulty g) at l ih e = cc
+      → elim k [ Sound ↦ firstFault step.Refused (step.Next n) l | Faulty g at ↦ step.Refused g at ] ≡ step.Refused f p
+      → elim k [ Sound ↦ firstFault refused good l | Faulty g at ↦ refused g at ] ≡ refused f p
+  refused-look n Sound l ih e = ih e
+  refused-look n (Faulty g at) l ih e = cc
 
-  pub told-refused : (n : ℕ) {f : Fault} {p : ℕ} (l : List Found)
+  pub told-refused : (n : ℕ) {f : Fault} {p : ℕ} (l : List Look)
       → firstFault step.Refused (step.Next n) l ≡ step.Refused f p → firstFault refused good l ≡ refused f p
   unfolding firstFault
   told-refused n [] e = let z : _≡_ {A = ℕ} 0 1 = cc in cc
-  told-refused n (x ∷ l) e = refused-look n (x .look) (x .place) l (told-refused n l) e
+  told-refused n (x ∷ l) e = refused-look n x l (told-refused n l) e
 
   -- where a step goes on, nothing was at fault
-  next-look : {n m : ℕ} (k : Look) (at : ℕ) (l : List Found)
+  next-look : {n m : ℕ} (k : Look) (l : List Look)
       → (firstFault step.Refused (step.Next n) l ≡ step.Next m → (firstFault refused good l ≡ good) × (m ≡ n))
-      → elim k [ Sound ↦ firstFault step.Refused (step.Next n) l | Faulty g ↦ step.Refused g at ] ≡ step.Next m
-      → (elim k [ Sound ↦ firstFault refused good l | Faulty g ↦ refused g at ] ≡ good) × (m ≡ n)
-  next-look Sound at l ih e = ih e
-  next-look (Faulty g) at l ih e = let z : _≡_ {A = ℕ} 0 1 = cc in (cc, cc)
+      → elim k [ Sound ↦ firstFault step.Refused (step.Next n) l | Faulty g at ↦ step.Refused g at ] ≡ step.Next m
+      → (elim k [ Sound ↦ firstFault refused good l | Faulty g at ↦ refused g at ] ≡ good) × (m ≡ n)
+  next-look Sound l ih e = ih e
+  next-look (Faulty g at) l ih e = let z : _≡_ {A = ℕ} 0 1 = cc in (cc, cc)
 
-  pub told-next : {n m : ℕ} (l : List Found)
+  pub told-next : {n m : ℕ} (l : List Look)
       → firstFault step.Refused (step.Next n) l ≡ step.Next m → (firstFault refused good l ≡ good) × (m ≡ n)
   unfolding firstFault
   told-next [] e = (refl, cc)
-  told-next (x ∷ l) e = next-look (x .look) (x .place) l (told-next l) e
+  told-next (x ∷ l) e = next-look x l (told-next l) e
 
 -- a section: its count, then its entries
-pub section-faulty : (form : Form) (section : Section) (book : List ℕ) (listed at : ℕ) (f : Fault)
-    → countIn section book at ≡ Faulty f → stepIn form section book listed at ≡ step.Refused f at
+pub section-faulty : (form : Form) (section : Section) (book : List ℕ) (listed at : ℕ) (f : Fault) (place : ℕ)
+    → countIn section book at ≡ Faulty f place → stepIn form section book listed at ≡ step.Refused f place
 unfolding stepIn sectionLooks countLook firstFault
-section-faulty form Permissions book listed at f e = rw e
-section-faulty form Rows book listed at f e = rw e
-section-faulty form Policies book listed at f e = rw e
+section-faulty form Permissions book listed at f place e = rw e
+section-faulty form Rows book listed at f place e = rw e
+section-faulty form Policies book listed at f place e = rw e
 
 pub section-sound : (form : Form) (section : Section) (book : List ℕ) (listed at : ℕ) → countIn section book at ≡ Sound
     → stepIn form section book listed at
@@ -149,7 +150,7 @@ section-sound form Policies book listed at e = rw e
 
 -- ---- from a section on
 
-module _ (form : Form) (section : Section) (book : List ℕ) (listed at : ℕ) (good : Reading) (rest : List Found) where
+module _ (form : Form) (section : Section) (book : List ℕ) (listed at : ℕ) (good : Reading) (rest : List Look) where
   -- a section's fault is the book's
   pub read-refused : {f : Fault} {p : ℕ} → stepIn form section book listed at ≡ step.Refused f p
       → firstFault read.Refused good (looksIn form section book listed at ++ rest) ≡ read.Refused f p

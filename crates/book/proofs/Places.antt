@@ -2,7 +2,7 @@
 use Prim.Native.Nat.{ℕ, _*_, _≤_, _<_}
 use native.Mathlib.Omega.{arith}
 use Rattle.book.specs.Reading.{rowsOf, width}
-use Rattle.book.specs.Steps.{widthIn}
+use Rattle.book.specs.Inner.Steps.{widthIn}
 use Rattle.book.specs.declared.Form.{Form}
 use Rattle.book.specs.declared.Form.the-variants.{Old, Persons}
 use Rattle.book.specs.declared.Section.{Section}
@@ -18,3 +18,7 @@ near form Policies i h = omega arith
 pub row-wide : (form : Form) → 8 ≤ width (rowsOf form)
 row-wide Old = omega arith
 row-wide Persons = omega arith
+
+pub row-narrow : (form : Form) → width (rowsOf form) ≤ 12
+row-narrow Old = omega arith
+row-narrow Persons = omega arith

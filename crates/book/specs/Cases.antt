@@ -9,7 +9,7 @@ use Rattle.roster.specs.Refusals.{policyRuling}
 use Rattle.roster.specs.declared.Policy.{Policy}
 use Rattle.book.specs.Layout.{Contents, bytesOf, joined, fieldBytes, littleEndian}
 use Rattle.book.specs.Faults.{faultNumber}
-use Rattle.book.specs.Reading.{number, fieldsAt, countLook, entryLook, inTurn, sectionLooks, past, formOf, firstFault, readOf}
+use Rattle.book.specs.Reading.{number, fieldsAt, cutPlace, countLook, entryLook, inTurn, sectionLooks, past, formOf, firstFault, readOf}
 use Rattle.book.specs.declared.Form.the-variants.{Old, Persons}
 use Rattle.book.specs.declared.Reading.{Reading}
 use Rattle.book.specs.declared.Reading.the-variants as read
@@ -160,16 +160,16 @@ rowCases =
     ∷ (two ((255 ∷ 255 ∷ 255 ∷ 0 ∷ 0 ∷ 0 ∷ 0 ∷ 0 ∷ []) ∷ (0 ∷ 0 ∷ 0 ∷ 1 ∷ 0 ∷ 0 ∷ 0 ∷ 0 ∷ []) ∷ []) [], good 5 22)
     ∷ (two ((0 ∷ 0 ∷ 0 ∷ 1 ∷ 0 ∷ 0 ∷ 0 ∷ 0 ∷ []) ∷ (255 ∷ 255 ∷ 255 ∷ 0 ∷ 0 ∷ 0 ∷ 0 ∷ 0 ∷ []) ∷ []) [], bad 15 14)
     ∷ (two (person 1 0 ∷ (255 ∷ 255 ∷ 255 ∷ 255 ∷ 3 ∷ 0 ∷ 0 ∷ 0 ∷ []) ∷ []) [], good 5 22)
-    ∷ (two (person 1 4 ∷ []) [], bad 16 6)
-    ∷ (two (person 1 3 ∷ person 2 1 ∷ person 3 4 ∷ []) [], bad 16 22)
-    ∷ (two ((1 ∷ 0 ∷ 0 ∷ 0 ∷ 0 ∷ 0 ∷ 0 ∷ 128 ∷ []) ∷ []) [], bad 16 6)
+    ∷ (two (person 1 4 ∷ []) [], bad 16 10)
+    ∷ (two (person 1 3 ∷ person 2 1 ∷ person 3 4 ∷ []) [], bad 16 26)
+    ∷ (two ((1 ∷ 0 ∷ 0 ∷ 0 ∷ 0 ∷ 0 ∷ 0 ∷ 128 ∷ []) ∷ []) [], bad 16 10)
     -- 31 permissions, and a row that holds the thirty-second; 32, and it may
-    ∷ (codesTo 31 ++ (1 ∷ 1 ∷ 0 ∷ 0 ∷ 0 ∷ 0 ∷ 0 ∷ 0 ∷ 128 ∷ 0 ∷ []), bad 16 64)
+    ∷ (codesTo 31 ++ (1 ∷ 1 ∷ 0 ∷ 0 ∷ 0 ∷ 0 ∷ 0 ∷ 0 ∷ 128 ∷ 0 ∷ []), bad 16 68)
     ∷ (codesTo 31 ++ (1 ∷ 1 ∷ 0 ∷ 0 ∷ 0 ∷ 0 ∷ 0 ∷ 0 ∷ 64 ∷ 0 ∷ []), good 63 72)
     ∷ (codesTo 32 ++ (1 ∷ 1 ∷ 0 ∷ 0 ∷ 0 ∷ 0 ∷ 0 ∷ 0 ∷ 128 ∷ 0 ∷ []), good 65 74)
     -- 9 permissions: the ninth is the first bit of the second byte
     ∷ (codesTo 9 ++ (1 ∷ 1 ∷ 0 ∷ 0 ∷ 0 ∷ 0 ∷ 1 ∷ 0 ∷ 0 ∷ 0 ∷ []), good 19 28)
-    ∷ (codesTo 9 ++ (1 ∷ 1 ∷ 0 ∷ 0 ∷ 0 ∷ 0 ∷ 2 ∷ 0 ∷ 0 ∷ 0 ∷ []), bad 16 20)
+    ∷ (codesTo 9 ++ (1 ∷ 1 ∷ 0 ∷ 0 ∷ 0 ∷ 0 ∷ 2 ∷ 0 ∷ 0 ∷ 0 ∷ []), bad 16 24)
     ∷ []
 
 -- policies: P within the two permissions and not zero, s to 64, d from 1 to 8, t from 1 to 64
@@ -179,14 +179,14 @@ policyCases =
     ∷ (two [] (asks 4 0 1 1 ∷ []), bad 18 7)
     ∷ (two [] (asks 0 0 1 1 ∷ []), bad 2 7)
     ∷ (two [] (asks 1 64 1 1 ∷ []), good 5 6)
-    ∷ (two [] (asks 1 65 1 1 ∷ []), bad 3 7)
-    ∷ (two [] (asks 1 255 1 1 ∷ []), bad 3 7)
-    ∷ (two [] (asks 1 0 0 1 ∷ []), bad 4 7)
+    ∷ (two [] (asks 1 65 1 1 ∷ []), bad 3 11)
+    ∷ (two [] (asks 1 255 1 1 ∷ []), bad 3 11)
+    ∷ (two [] (asks 1 0 0 1 ∷ []), bad 4 12)
     ∷ (two [] (asks 1 0 8 1 ∷ []), good 5 6)
-    ∷ (two [] (asks 1 0 9 1 ∷ []), bad 4 7)
-    ∷ (two [] (asks 1 0 1 0 ∷ []), bad 5 7)
+    ∷ (two [] (asks 1 0 9 1 ∷ []), bad 4 12)
+    ∷ (two [] (asks 1 0 1 0 ∷ []), bad 5 13)
     ∷ (two [] (asks 1 0 1 64 ∷ []), good 5 6)
-    ∷ (two [] (asks 1 0 1 65 ∷ []), bad 5 7)
+    ∷ (two [] (asks 1 0 1 65 ∷ []), bad 5 13)
     -- 31 permissions, and a task of the thirty-second; 32, and it may
     ∷ (codesTo 31 ++ (0 ∷ 1 ∷ 0 ∷ 0 ∷ 0 ∷ 128 ∷ 0 ∷ 1 ∷ 1 ∷ []), bad 18 65)
     ∷ (codesTo 32 ++ (0 ∷ 1 ∷ 0 ∷ 0 ∷ 0 ∷ 128 ∷ 0 ∷ 1 ∷ 1 ∷ []), good 65 66)
@@ -206,18 +206,19 @@ faultsTogether =
     ∷ (two [] (asks 0 65 1 1 ∷ []), bad 2 7)
     ∷ (two [] (asks 0 0 9 1 ∷ []), bad 2 7)
     ∷ (two [] (asks 0 0 1 65 ∷ []), bad 2 7)
-    ∷ (two [] (asks 1 65 0 0 ∷ []), bad 3 7)
-    ∷ (two [] (asks 1 65 9 1 ∷ []), bad 3 7)
-    ∷ (two [] (asks 1 65 1 65 ∷ []), bad 3 7)
-    ∷ (two [] (asks 1 0 0 0 ∷ []), bad 4 7)
-    ∷ (two [] (asks 1 0 9 65 ∷ []), bad 4 7)
+    ∷ (two [] (asks 1 65 0 0 ∷ []), bad 3 11)
+    ∷ (two [] (asks 1 65 9 1 ∷ []), bad 3 11)
+    ∷ (two [] (asks 1 65 1 65 ∷ []), bad 3 11)
+    ∷ (two [] (asks 1 0 0 0 ∷ []), bad 4 12)
+    ∷ (two [] (asks 1 0 9 65 ∷ []), bad 4 12)
     -- cut: a code, a row, a policy, at fault in what there is of them
     ∷ (take 4 (2 ∷ 10 ∷ 0 ∷ 10 ∷ 0 ∷ []), bad 11 3)
-    ∷ (take 21 (two (person 1 3 ∷ person 1 4 ∷ []) []), bad 11 14)
-    ∷ (take 18 (two (person 1 3 ∷ person 1 4 ∷ []) []), bad 11 14)
-    ∷ (take 13 (two [] (asks 4 65 0 0 ∷ [])), bad 11 7)
-    ∷ (take 13 (two [] (asks 0 65 0 0 ∷ [])), bad 11 7)
-    ∷ (take 13 (two [] (asks 1 65 0 0 ∷ [])), bad 11 7)
+    ∷ (take 21 (two (person 1 3 ∷ person 1 4 ∷ []) []), bad 11 18)
+    ∷ (take 18 (two (person 1 3 ∷ person 1 4 ∷ []) []), bad 11 18)
+    ∷ (take 17 (two (person 1 3 ∷ person 1 4 ∷ []) []), bad 11 14)
+    ∷ (take 13 (two [] (asks 4 65 0 0 ∷ [])), bad 11 13)
+    ∷ (take 13 (two [] (asks 0 65 0 0 ∷ [])), bad 11 13)
+    ∷ (take 13 (two [] (asks 1 65 0 0 ∷ [])), bad 11 13)
     ∷ []
 
 -- faults in two places: the earlier is told
@@ -228,22 +229,22 @@ faultsApart =
     ∷ (2 ∷ 10 ∷ 0 ∷ 10 ∷ 0 ∷ 65 ∷ [], bad 13 3)
     ∷ (2 ∷ 10 ∷ 0 ∷ 10 ∷ 0 ∷ [], bad 13 3)
     ∷ (2 ∷ 10 ∷ 0 ∷ 20 ∷ 0 ∷ 65 ∷ 1 ∷ 0 ∷ 0 ∷ 0 ∷ 4 ∷ 0 ∷ 0 ∷ 0 ∷ [], bad 14 5)
-    ∷ (two (person 1 4 ∷ person 1 3 ∷ []) [], bad 16 6)
+    ∷ (two (person 1 4 ∷ person 1 3 ∷ []) [], bad 16 10)
     ∷ (two (person 1 3 ∷ person 1 3 ∷ person 2 4 ∷ []) [], bad 15 14)
-    ∷ (two (person 1 3 ∷ person 2 4 ∷ person 2 3 ∷ []) [], bad 16 14)
-    ∷ (take 22 (two (person 1 3 ∷ person 2 4 ∷ []) []) ++ (33 ∷ []), bad 16 14)
+    ∷ (two (person 1 3 ∷ person 2 4 ∷ person 2 3 ∷ []) [], bad 16 18)
+    ∷ (take 22 (two (person 1 3 ∷ person 2 4 ∷ []) []) ++ (33 ∷ []), bad 16 18)
     ∷ (take 22 (two (person 1 3 ∷ person 1 3 ∷ []) []) ++ (33 ∷ []), bad 15 14)
     ∷ (2 ∷ 10 ∷ 0 ∷ 20 ∷ 0 ∷ 0 ∷ 33 ∷ 4 ∷ 0 ∷ 0 ∷ 0 ∷ 65 ∷ 0 ∷ 0 ∷ [], bad 17 6)
-    ∷ (two [] (asks 1 0 1 0 ∷ asks 4 0 1 1 ∷ []), bad 5 7)
+    ∷ (two [] (asks 1 0 1 0 ∷ asks 4 0 1 1 ∷ []), bad 5 13)
     ∷ (two [] (asks 1 0 1 1 ∷ asks 4 0 1 0 ∷ []), bad 18 14)
-    ∷ (two [] (asks 1 0 9 1 ∷ asks 1 65 1 1 ∷ []), bad 4 7)
+    ∷ (two [] (asks 1 0 9 1 ∷ asks 1 65 1 1 ∷ []), bad 4 12)
     ∷ (two [] (asks 1 0 1 1 ∷ asks 0 0 1 1 ∷ asks 1 65 1 1 ∷ []), bad 2 14)
-    ∷ (take 21 (two [] (asks 1 65 1 1 ∷ asks 1 0 1 1 ∷ [])), bad 3 7)
+    ∷ (take 21 (two [] (asks 1 65 1 1 ∷ asks 1 0 1 1 ∷ [])), bad 3 11)
     ∷ (two [] (asks 4 0 1 1 ∷ []) ++ (0 ∷ []), bad 18 7)
-    ∷ (two [] (asks 1 0 1 65 ∷ []) ++ (0 ∷ []), bad 5 7)
+    ∷ (two [] (asks 1 0 1 65 ∷ []) ++ (0 ∷ []), bad 5 13)
     ∷ []
 
--- a book of two permissions, one row and one policy, whole, cut around each count and entry, and with bytes after it
+-- a book of two permissions, one row and one policy, whole, cut before and in each count and field, and with bytes after it
 abbrev pub cutCases : List (List ℕ × Outcome)
 cutCases =
     (little, good 5 14)
@@ -253,10 +254,15 @@ cutCases =
     ∷ (take 4 little, bad 11 3)
     ∷ (take 5 little, bad 11 5)
     ∷ (take 6 little, bad 11 6)
-    ∷ (take 13 little, bad 11 6)
+    ∷ (take 9 little, bad 11 6)
+    ∷ (take 10 little, bad 11 10)
+    ∷ (take 13 little, bad 11 10)
     ∷ (take 14 little, bad 11 14)
     ∷ (take 15 little, bad 11 15)
-    ∷ (take 21 little, bad 11 15)
+    ∷ (take 18 little, bad 11 15)
+    ∷ (take 19 little, bad 11 19)
+    ∷ (take 20 little, bad 11 20)
+    ∷ (take 21 little, bad 11 21)
     ∷ (little ++ (0 ∷ []), bad 19 22)
     ∷ (little ++ (7 ∷ 7 ∷ []), bad 19 22)
     ∷ (1 ∷ 0 ∷ 0 ∷ 0 ∷ 0 ∷ [] ++ (0 ∷ []), bad 19 5)
@@ -272,22 +278,28 @@ casesOfB =
     ∷ (set bookB 3 10, bad 13 3)
     ∷ (set bookB 5 65, bad 14 5)
     ∷ (set bookB 14 101, bad 15 14)
-    ∷ (set bookB 18 4, bad 16 14)
+    ∷ (set bookB 10 4, bad 16 10)
+    ∷ (set bookB 18 4, bad 16 18)
     ∷ (set bookB 38 33, bad 17 38)
     ∷ (set bookB 39 4, bad 18 39)
     ∷ (set bookB 39 0, bad 2 39)
-    ∷ (set bookB 43 65, bad 3 39)
-    ∷ (set bookB 44 0, bad 4 39)
-    ∷ (set bookB 45 65, bad 5 39)
-    ∷ (set bookB 59 65, bad 5 53)
+    ∷ (set bookB 43 65, bad 3 43)
+    ∷ (set bookB 44 0, bad 4 44)
+    ∷ (set bookB 45 65, bad 5 45)
+    ∷ (set bookB 59 65, bad 5 59)
     ∷ (set (set bookB 14 101) 18 4, bad 15 14)
-    ∷ (take 21 (set bookB 14 101), bad 11 14)
+    ∷ (set (set bookB 10 4) 14 101, bad 16 10)
+    ∷ (take 21 (set bookB 14 101), bad 11 18)
+    ∷ (take 18 (set bookB 14 101), bad 11 18)
+    ∷ (take 17 (set bookB 14 101), bad 11 14)
+    ∷ (take 44 (set bookB 39 4), bad 11 44)
+    ∷ (take 45 (set (set bookB 39 0) 43 65), bad 11 45)
     ∷ (take 22 (set bookB 5 64), bad 11 22)
-    ∷ (take 59 bookB, bad 11 53)
+    ∷ (take 59 bookB, bad 11 59)
     ∷ []
 
--- new books: the leading byte by itself, the permission count behind it, and book B of persons with a byte changed, cut before and in each
--- count and entry, and with one byte more
+-- new books: the leading byte by itself, the permission count behind it, and book B of persons with a byte changed, cut before and in counts and
+-- fields, and with one byte more
 abbrev pub newCases : List (List ℕ × Outcome)
 newCases =
     (200 ∷ [], bad 11 1)
@@ -307,28 +319,32 @@ newCases =
     ∷ (set newB 23 255, good 6 55)
     ∷ (set newB 23 0, good 6 55)
     ∷ (set (set newB 26 255) 38 255, good 6 55)
-    ∷ (set newB 27 4, bad 16 19)
+    ∷ (set newB 27 4, bad 16 27)
     ∷ (set (set newB 19 101) 27 4, bad 15 19)
     ∷ (set newB 55 33, bad 17 55)
     ∷ (set newB 56 4, bad 18 56)
     ∷ (set newB 56 0, bad 2 56)
-    ∷ (set newB 60 65, bad 3 56)
-    ∷ (set newB 61 0, bad 4 56)
-    ∷ (set newB 62 65, bad 5 56)
+    ∷ (set newB 60 65, bad 3 60)
+    ∷ (set newB 61 0, bad 4 61)
+    ∷ (set newB 62 65, bad 5 62)
     ∷ (take 2 newB, bad 11 2)
     ∷ (take 4 newB, bad 11 4)
     ∷ (take 5 newB, bad 11 4)
     ∷ (take 6 newB, bad 11 6)
     ∷ (take 7 newB, bad 11 7)
-    ∷ (take 15 newB, bad 11 7)
-    ∷ (take 18 newB, bad 11 7)
+    ∷ (take 10 newB, bad 11 7)
+    ∷ (take 11 newB, bad 11 11)
+    ∷ (take 15 newB, bad 11 15)
+    ∷ (take 18 newB, bad 11 15)
     ∷ (take 19 newB, bad 11 19)
-    ∷ (take 30 (set newB 19 101), bad 11 19)
+    ∷ (take 22 (set newB 19 101), bad 11 19)
+    ∷ (take 26 (set newB 19 101), bad 11 23)
+    ∷ (take 30 (set newB 19 101), bad 11 27)
     ∷ (take 43 newB, bad 11 43)
     ∷ (take 55 newB, bad 11 55)
     ∷ (take 56 newB, bad 11 56)
     ∷ (take 63 newB, bad 11 63)
-    ∷ (take 76 newB, bad 11 70)
+    ∷ (take 76 newB, bad 11 76)
     ∷ []
 
 abbrev pub cases : List (List ℕ × Outcome)
@@ -338,5 +354,5 @@ cases = countCases ++ codeCases ++ rowCases ++ policyCases ++ faultsTogether ++ 
 
 -- what is told of each book is what the table says
 pub cases-told : map (λ (c : List ℕ × Outcome). outcome (readOf (c .0))) cases ≡ map (λ (c : List ℕ × Outcome). c .1) cases
-unfolding tabulate number fieldsAt countLook entryLook inTurn sectionLooks past formOf firstFault readOf policyRuling
+unfolding tabulate number fieldsAt cutPlace countLook entryLook inTurn sectionLooks past formOf firstFault readOf policyRuling
 cases-told = refl

@@ -1,8 +1,11 @@
 -- 01, "The roster book": the number of each fault, and which numbers a book is refused with. Nothing here is proved: these are definitions.
 use mathlib.Core.Logic.{_⊎_}
+use mathlib.Core.Option.{Option, some, none}
 use Prim.Native.Nat.{ℕ, _≤_}
 use Rattle.roster.specs.Refusals.{numberOf}
 use Rattle.book.specs.declared.Fault.{Fault}
+use Rattle.book.specs.declared.Reading.{Reading}
+use Rattle.book.specs.declared.Reading.the-variants as read
 use Rattle.book.specs.declared.Fault.the-variants.{Short, Permissions, Code, Rows, Staff, Holdings, Policies, Task, Policy, Excess}
 
 -- "**11** the book ends before it is whole; then for counts **12** permissions not 1 to 32, **14** rows above 64, **17** policies above 32;
@@ -27,3 +30,8 @@ EntryNumber n = ((2 ≤ n) × (n ≤ 5)) ⊎ ((12 ≤ n) × (n ≤ 18))
 -- a number that a book is refused with: one of 2 to 5 or of 11 to 19. (1 and 6 are of questions: a fault can say them, no book has them.)
 abbrev pub BookNumber : ℕ → Type 0
 BookNumber n = ((2 ≤ n) × (n ≤ 5)) ⊎ ((11 ≤ n) × (n ≤ 19))
+
+-- the fault that a reply tells, without its place
+abbrev pub faultOf : Reading → Option Fault
+faultOf (read.Good starts) = none
+faultOf (read.Refused f at) = some f

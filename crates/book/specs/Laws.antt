@@ -1,6 +1,7 @@
 -- what is promised
 pub mod Books
 pub mod Refused
+pub mod Fields
 pub mod Parts
 pub mod View
 pub mod Longest

@@ -2,13 +2,15 @@
 pub mod Layout
 pub mod Faults
 pub mod Reading
+pub mod FieldPlaces
 pub mod Parts
 pub mod Promises
--- the book before there were forms
+-- the book before there were forms, and the places before they were of fields
 pub mod OldBooks
+pub mod EntryPlaces
 -- examples, computed
 pub mod Cases
 -- the theorems
 pub mod Laws
 -- what the reader's own functions answer
-pub mod Steps
+pub mod Inner

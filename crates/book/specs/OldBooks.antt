@@ -1,5 +1,6 @@
 -- 01, "The roster book", as it stood before there were forms: no leading byte, and rows of a staff number and holdings. Kept so that `Laws/Old`
 -- can say that an old book is still read so. Nothing here is proved: these are definitions, and they run.
+use mathlib.Core.Bool.{false}
 use mathlib.Core.Option.{Option, some, none}
 use mathlib.Core.List.{List, [], _∷_, _++_}
 use Prim.Native.Nat.{ℕ}
@@ -8,7 +9,7 @@ use lib.ListN.{getD}
 use Rattle.roster.specs.Limits.{rowLimit}
 use Rattle.roster.specs.declared.Policy.{Policy}
 use Rattle.book.specs.Layout.{codeWidths, policyWidths, codeFields, policyFields, section}
-use Rattle.book.specs.Reading.{Kind, notAbove, pastListed, rowLook, codes, policies, entryAt, width, countAt, sectionLooks, past, endLook, firstFault}
+use Rattle.book.specs.Reading.{Kind, notAbove, pastListed, rowAmiss, codes, policies, entryAt, width, countAt, sectionLooks, past, endLook, firstFault}
 use Rattle.book.specs.Parts.{placeOf}
 use Rattle.book.specs.declared.Fault.the-variants as fault
 use Rattle.book.specs.declared.Place.{Place}
@@ -38,7 +39,7 @@ oldRows = record {
   value = λ f. record { staff = getD f 0 0; holdings = getD f 1 0 };
   outOfRange = ltb rowLimit;
   countFault = fault.Rows;
-  faults = λ listed before row. rowLook (notAbove (oldStaff before) (row .staff)) (pastListed listed (row .holdings));
+  faults = λ listed before row. rowAmiss false (notAbove (oldStaff before) (row .staff)) (pastListed listed (row .holdings));
 }
 
 -- the bytes of a book

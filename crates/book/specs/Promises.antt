@@ -11,10 +11,11 @@ use Rattle.roster.specs.Limits.{rowLimit}
 use Rattle.roster.specs.declared.Policy.{Policy}
 use Rattle.accounts.specs.declared.Accounts.{Accounts}
 use Rattle.book.specs.Layout.{Contents, Each, LayoutOf, section, codeWidths, codeFields, rowWidths, rowFields, hasPersons, lead}
-use Rattle.book.specs.Reading.{Found, formOf, looks}
+use Rattle.book.specs.Reading.{formOf, looks}
 use Rattle.book.specs.declared.Form.{Form}
 use Rattle.book.specs.Parts.{startsIn, codeCount, codeAt, rowByNumber, rowOr0, accountsIn, policyCount, policyAt}
 use Rattle.book.specs.declared.Fault.{Fault}
+use Rattle.book.specs.declared.Look.{Look}
 use Rattle.book.specs.declared.Look.the-variants.{Sound, Faulty}
 use Rattle.book.specs.declared.Reading.{Reading}
 use Rattle.book.specs.declared.Reading.the-variants as read
@@ -33,14 +34,14 @@ abbrev pub Bytes : List ℕ → Type 0
 Bytes book = (i : ℕ) → getD book i 0 < 256
 
 -- nothing of what is looked at is at fault
-abbrev pub AllSound : List Found → Type 0
-AllSound = Each (λ x. x .look ≡ Sound)
+abbrev pub AllSound : List Look → Type 0
+AllSound = Each (λ x. x ≡ Sound)
 
 -- "the first fault": of all that is looked at, in the order of the bytes, this is at fault and nothing before it is
 pub record FirstFault (book : List ℕ) (f : Fault) (at : ℕ) : Type 0 where
-  pub before : List Found
-  pub after : List Found
-  pub order : looks book ≡ before ++ (record { place = at; look = Faulty f } ∷ after)
+  pub before : List Look
+  pub after : List Look
+  pub order : looks book ≡ before ++ (Faulty f at ∷ after)
   pub sound : AllSound before
 
 -- where the sections of the layout of these values start

@@ -1,6 +1,6 @@
--- 01, "The roster book", its last paragraph: the book is read from the front, and the first fault is refused with its number and its place.
--- Every count and every entry is looked at, in the order of the bytes; what is looked at stands in a list, and the reply is its first fault.
--- Nothing here is proved: these are definitions, and they run.
+-- 01, "The roster book", its last paragraph, and request 05: the book is read from the front, and the first fault is refused with its number and
+-- the place of the count or field concerned. Every count and every entry is looked at, in the order of the bytes; what is looked at stands in a
+-- list, and the reply is its first fault. Nothing here is proved: these are definitions, and they run.
 use mathlib.Core.Bool.{Bool, true, false}
 use mathlib.Core.List.{List, [], _∷_, _++_}
 use mathlib.Core.Option.{Option, some, none}
@@ -12,6 +12,8 @@ use Rattle.roster.specs.Refusals.{outside, made}
 use Rattle.roster.specs.declared.Made.{Made}
 use Rattle.roster.specs.declared.Made.the-variants as variants
 use Rattle.roster.specs.declared.Policy.{Policy}
+use Rattle.roster.specs.declared.Refusal.{Refusal}
+use Rattle.roster.specs.declared.Refusal.the-variants as refusal
 use Rattle.book.specs.Layout.{codeWidths, rowWidths, policyWidths, hasPersons, permissionLimit, policyLimit}
 use Rattle.book.specs.declared.Form.{Form}
 use Rattle.book.specs.declared.Form.the-variants.{Old, Persons}
@@ -19,6 +21,8 @@ use Rattle.book.specs.declared.Row.{Row}
 use Rattle.book.specs.declared.Fault.{Fault}
 use Rattle.book.specs.declared.Fault.the-variants as fault
 use Rattle.book.specs.declared.Section.the-variants.{Permissions, Rows, Policies}
+use Rattle.book.specs.declared.Amiss.{Amiss}
+use Rattle.book.specs.declared.Amiss.the-variants as amiss
 use Rattle.book.specs.declared.Look.{Look}
 use Rattle.book.specs.declared.Look.the-variants.{Sound, Faulty}
 use Rattle.book.specs.declared.Before.{Before}
@@ -44,21 +48,32 @@ abbrev pub total : List ℕ → ℕ
 total [] = 0
 total (w ∷ ws) = w + total ws
 
+-- where the k-th field of an entry of these fields starts, the entry being at this place
+abbrev pub fieldPlace : List ℕ → ℕ → ℕ → ℕ
+fieldPlace ws at zero = at
+fieldPlace [] at (suc k) = at
+fieldPlace (w ∷ ws) at (suc k) = fieldPlace ws (at + w) k
+
+-- where its first field starts that a book of this length does not have whole
+unfoldable pub cutPlace : List ℕ → ℕ → ℕ → ℕ
+cutPlace [] len at = at
+cutPlace (w ∷ ws) len at = elim (ltb len (at + w)) [ true ↦ at | false ↦ cutPlace ws len (at + w) ]
+
 -- ---- a kind of entry
 
 -- What is to be known of a kind of entry: its fields, the value that they are, the counts that are out of range and their fault, and what is
--- amiss with an entry, beside the one before it, which the first has not.
+-- amiss with an entry, beside the one before it, which the first has not: nothing, or this fault of its field of this number.
 pub record Kind (A : Type 0) : Type 0 where
   pub widths : List ℕ
   pub value : List ℕ → A
   pub outOfRange : ℕ → Bool
   pub countFault : Fault
-  pub faults : ℕ → Option A → A → Look
+  pub faults : ℕ → Option A → A → Amiss
 
--- this fault if it is there, and else what comes after it
-abbrev pub faultIf : Bool → Fault → Look → Look
-faultIf true f rest = Faulty f
-faultIf false f rest = rest
+-- this fault of this field if it is there, and else what comes after it
+abbrev pub amissIf : Bool → Fault → ℕ → Amiss → Amiss
+amissIf true f k rest = amiss.Field f k
+amissIf false f k rest = rest
 
 -- "not ascending": not above the one before. The first has none before it.
 abbrev pub notAbove : Option ℕ → ℕ → Bool
@@ -76,16 +91,21 @@ codes = record {
   value = λ f. getD f 0 0;
   outOfRange = outside permissionLimit;
   countFault = fault.Permissions;
-  faults = λ listed before code. faultIf (notAbove before code) fault.Code Sound;
+  faults = λ listed before code. amissIf (notAbove before code) fault.Code 0 amiss.Nothing;
 }
 
 abbrev pub staffOf : Option Row → Option ℕ
 staffOf none = none
 staffOf (some row) = some (row .staff)
 
+-- a row's holdings are its last field, after its staff number and, where it has one, its person number
+abbrev pub holdingsField : Bool → ℕ
+holdingsField false = 1
+holdingsField true = 2
+
 -- "for a row **15** staff number not ascending, **16** a holding past the listed permissions"
-abbrev pub rowLook : Bool → Bool → Look
-rowLook low beyond = faultIf low fault.Staff (faultIf beyond fault.Holdings Sound)
+abbrev pub rowAmiss : Bool → Bool → Bool → Amiss
+rowAmiss persons low beyond = amissIf low fault.Staff 0 (amissIf beyond fault.Holdings (holdingsField persons) amiss.Nothing)
 
 -- the row that these fields are, with a person number or without
 abbrev pub rowWith : Bool → List ℕ → Row
@@ -99,12 +119,21 @@ rows persons = record {
   value = rowWith persons;
   outOfRange = ltb rowLimit;
   countFault = fault.Rows;
-  faults = λ listed before row. rowLook (notAbove (staffOf before) (row .staff)) (pastListed listed (row .holdings));
+  faults = λ listed before row. rowAmiss persons (notAbove (staffOf before) (row .staff)) (pastListed listed (row .holdings));
 }
 
-abbrev pub byMade : Made → Look
-byMade (variants.Policy p) = Sound
-byMade (variants.Refused refusal) = Faulty (fault.Policy refusal)
+-- the field that a policy's own refusal speaks of: P, s, d or t. (1 and 6 are of questions: no policy by itself is refused so.)
+abbrev pub fieldOf : Refusal → ℕ
+fieldOf refusal.Rows = 0
+fieldOf refusal.Task = 0
+fieldOf refusal.Away = 1
+fieldOf refusal.Crews = 2
+fieldOf refusal.Size = 3
+fieldOf refusal.Absence = 0
+
+abbrev pub byMade : Made → Amiss
+byMade (variants.Policy p) = amiss.Nothing
+byMade (variants.Refused r) = amiss.Field (fault.Policy r) (fieldOf r)
 
 -- "**17** policies above 32"; "for a policy **18** P past the listed permissions, then 2, 3, 4, 5 as above"
 abbrev pub policies : Kind Policy
@@ -114,7 +143,7 @@ policies = record {
   outOfRange = ltb policyLimit;
   countFault = fault.Policies;
   faults = λ listed before p.
-      faultIf (pastListed listed (p .task)) fault.Task
+      amissIf (pastListed listed (p .task)) fault.Task 0
       (byMade (made p));
 }
 
@@ -131,39 +160,45 @@ abbrev pub prior : {A : Type 0} → (ℕ → A) → Before → Option A
 prior entry Nothing = none
 prior entry (Entry at) = some (entry at)
 
--- "Within one: **11** the book ends before it is whole; then .."
-abbrev pub wholeThen : List ℕ → ℕ → ℕ → Look → Look
-wholeThen book at wide rest = faultIf (ltb (length book) (at + wide)) fault.Short rest
+-- this fault at this place if it is there, and else what comes after it
+abbrev pub faultIf : Bool → Fault → ℕ → Look → Look
+faultIf true f at rest = Faulty f at
+faultIf false f at rest = rest
 
--- a count, one byte
+-- "The place should be the first byte of the field at fault"
+abbrev pub placed : List ℕ → ℕ → Amiss → Look
+placed ws at amiss.Nothing = Sound
+placed ws at (amiss.Field f k) = Faulty f (fieldPlace ws at k)
+
+-- "Within one: **11** the book ends before it is whole; then .."; "for 11, the first byte of the field that isn't whole"
+abbrev pub wholeThen : List ℕ → ℕ → List ℕ → Look → Look
+wholeThen book at ws rest = faultIf (ltb (length book) (at + total ws)) fault.Short (cutPlace ws (length book) at) rest
+
+-- a count is one field of one byte
 unfoldable pub countLook : {A : Type 0} → Kind A → List ℕ → ℕ → Look
-countLook kind book at = wholeThen book at 1 (faultIf (kind .outOfRange (getD book at 0)) (kind .countFault) Sound)
+countLook kind book at =
+    faultIf (ltb (length book) (at + 1)) fault.Short at
+    (faultIf (kind .outOfRange (getD book at 0)) (kind .countFault) at
+    Sound)
 
--- an entry
+-- an entry: whether it is whole is asked before anything else of it
 unfoldable pub entryLook : {A : Type 0} → Kind A → List ℕ → ℕ → Before → ℕ → Look
 entryLook kind book listed before at =
-    wholeThen book at (width kind) (kind .faults listed (prior (entryAt kind book) before) (entryAt kind book at))
-
--- what is found at a place: "the place of the count or entry concerned"
-pub record Found : Type 0 where
-  pub place : ℕ
-  pub look : Look
+    wholeThen book at (kind .widths) (placed (kind .widths) at (kind .faults listed (prior (entryAt kind book) before) (entryAt kind book at)))
 
 -- n entries of this width from this place on
-unfoldable pub inTurn : (Before → ℕ → Look) → ℕ → Before → ℕ → ℕ → List Found
+unfoldable pub inTurn : (Before → ℕ → Look) → ℕ → Before → ℕ → ℕ → List Look
 inTurn look wide before at zero = []
-inTurn look wide before at (suc n) =
-    record { place = at; look = look before at } ∷ inTurn look wide (Entry at) (at + wide) n
+inTurn look wide before at (suc n) = look before at ∷ inTurn look wide (Entry at) (at + wide) n
 
 -- the count that stands at this place
 abbrev pub countAt : List ℕ → ℕ → ℕ
 countAt book at = getD book at 0
 
 -- "each after its count in one byte"
-unfoldable pub sectionLooks : {A : Type 0} → Kind A → List ℕ → ℕ → ℕ → List Found
+unfoldable pub sectionLooks : {A : Type 0} → Kind A → List ℕ → ℕ → ℕ → List Look
 sectionLooks kind book listed at =
-    record { place = at; look = countLook kind book at }
-    ∷ inTurn (entryLook kind book listed) (width kind) Nothing (at + 1) (countAt book at)
+    countLook kind book at ∷ inTurn (entryLook kind book listed) (width kind) Nothing (at + 1) (countAt book at)
 
 -- where the section ends that starts at this place
 unfoldable pub past : {A : Type 0} → Kind A → List ℕ → ℕ → ℕ
@@ -193,28 +228,28 @@ abbrev pub listedIn : Form → List ℕ → ℕ
 listedIn form book = countAt book (front form)
 
 -- "Last, **19** bytes follow the policies; the place is the first of them."
-abbrev pub endLook : List ℕ → ℕ → Found
-endLook book at = record { place = at; look = faultIf (ltb at (length book)) fault.Excess Sound }
+abbrev pub endLook : List ℕ → ℕ → Look
+endLook book at = faultIf (ltb at (length book)) fault.Excess at Sound
 
 -- all that is looked at, in the order of the bytes: from the policies on, from the rows on, from the front
-abbrev pub looksFromPolicies : Form → List ℕ → ℕ → List Found
+abbrev pub looksFromPolicies : Form → List ℕ → ℕ → List Look
 looksFromPolicies form book at = sectionLooks policies book (listedIn form book) at ++ (endLook book (past policies book at) ∷ [])
 
-abbrev pub looksFromRows : Form → List ℕ → ℕ → List Found
+abbrev pub looksFromRows : Form → List ℕ → ℕ → List Look
 looksFromRows form book at =
     sectionLooks (rowsOf form) book (listedIn form book) at ++ looksFromPolicies form book (past (rowsOf form) book at)
 
-abbrev pub looksBy : Form → List ℕ → List Found
+abbrev pub looksBy : Form → List ℕ → List Look
 looksBy form book = sectionLooks codes book 0 (front form) ++ looksFromRows form book (past codes book (front form))
 
-abbrev pub looks : List ℕ → List Found
+abbrev pub looks : List ℕ → List Look
 looks book = looksBy (formOf book) book
 
 -- "The book is read from the front; the first fault is refused with its number and the place": the first fault of a list, or what there is
 -- without one
-unfoldable pub firstFault : {R : Type 0} → (Fault → ℕ → R) → R → List Found → R
+unfoldable pub firstFault : {R : Type 0} → (Fault → ℕ → R) → R → List Look → R
 firstFault refused good [] = good
-firstFault refused good (x ∷ l) = elim (x .look) [ Sound ↦ firstFault refused good l | Faulty f ↦ refused f (x .place) ]
+firstFault refused good (x ∷ l) = elim x [ Sound ↦ firstFault refused good l | Faulty f at ↦ refused f at ]
 
 -- where the sections of a book start, each with its count
 abbrev pub startsOf : Form → List ℕ → Starts

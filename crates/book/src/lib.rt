@@ -19,7 +19,7 @@ ghost use Rattle.book.specs.Faults.{faultNumber};
 ghost use Rattle.book.specs.Reading.{formOf, front, readOf};
 ghost use Rattle.book.specs.Parts.{startsIn, placeOf, codeCount, codeAt, rowAt, rowOf, rowByNumber, rowOr0, accountsAt, accountsIn, policyCount, policyIn, policyAt};
 ghost use Rattle.book.specs.Promises.{ViewOf};
-ghost use Rattle.book.specs.Steps.{widthIn, readPolicies, readRows};
+ghost use Rattle.book.specs.Inner.Steps.{widthIn, readPolicies, readRows};
 
 // Permissions of a book at most; a row's holdings have a bit for each.
 pub const PERMISSIONS: usize = 32;
@@ -56,7 +56,7 @@ pub struct Starts {
     pub policies: usize,
 }
 
-// The reply to a book: good, with what is needed to reach each part, or its first fault with its place.
+// The reply to a book: good, with what is needed to reach each part, or its first fault with the place of the count or field concerned.
 pub enum Reading {
     Good(Starts),
     Refused(Fault, usize),
@@ -128,10 +128,16 @@ pub enum Section {
     Policies,
 }
 
-// What looking at one count or one entry finds.
+// What is amiss with a count or an entry by itself: nothing, or this fault of its field of this number, the first being 0.
+pub enum Amiss {
+    Nothing,
+    Field(Fault, usize),
+}
+
+// What looking at one count or one entry of a book finds: nothing, or its first fault with the place of the field concerned.
 pub enum Look {
     Sound,
-    Faulty(Fault),
+    Faulty(Fault, usize),
 }
 
 // Where the entry before stands, if there is one.

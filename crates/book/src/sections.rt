@@ -1,5 +1,6 @@
 // What the reader does with one section: the numbers that stand at a place, one count or one entry looked over, and all entries in their turn.
-// specs/Steps says what each function answers. What is public here is what the writer of a book asks too.
+// specs/Inner/Steps says what each function answers. What is public here is what the writer of a book asks too.
+use crate::Amiss;
 use crate::Before;
 use crate::Cursor;
 use crate::Fault;
@@ -12,17 +13,23 @@ use crate::Section;
 use crate::Step;
 use roster::Made;
 use roster::Policy;
+use roster::Refusal;
 ghost use mathlib.Core.Path.{_≡_};
+ghost use mathlib.Core.Bool.{true};
 ghost use Prim.Native.Nat.{_+_, _<_, _^_};
 ghost use lib.Dec.{ltb};
 ghost use lib.ListN.{length, getD};
-ghost use Rattle.book.specs.Reading.{number, pastListed, rowLook, width, codes, rowsOf, policies, entryAt, entryLook};
-ghost use Rattle.book.specs.Steps.{widthIn, leadIn, staysIn, outIn, countFaultIn, countLookIn, countIn, madeAt, lookIn, pastEntry, stepFrom, startAt, stepIn};
+ghost use Rattle.book.specs.Layout.{rowWidths, policyWidths, hasPersons};
+ghost use Rattle.book.specs.Reading.{number, pastListed, rowAmiss, holdingsField, fieldOf, fieldPlace, cutPlace, width, codes, rowsOf, policies, entryAt, entryLook};
+ghost use Rattle.book.specs.Inner.Steps.{widthIn, leadIn, staysIn, outIn, countFaultIn, countAmissIn, countIn, madeAt, lookIn, pastEntry, stepFrom, startAt, stepIn};
 
 // The widths of the entries, in bytes.
 const CODE_WIDTH: usize = 2;
 
 const POLICY_WIDTH: usize = 7;
+
+// P's width, the first field of a policy.
+const TASK_WIDTH: usize = 4;
 
 // ---- what stands at a place
 
@@ -159,14 +166,14 @@ fn count_fault(section: Section) -> Fault
     }
 }
 
-// What is told of a whole count.
-pub fn count_look(section: Section, count: usize) -> Look
-    ensures { λ r. ⌜ r ≡ countLookIn section count ⌝ }
+// What is amiss with a count, which is one field.
+pub fn count_amiss(section: Section, count: usize) -> Amiss
+    ensures { λ r. ⌜ r ≡ countAmissIn section count ⌝ }
 {
     if out_of_range(section, count) {
-        return Look::Faulty(count_fault(section));
+        return Amiss::Field(count_fault(section), 0);
     }
-    Look::Sound
+    Amiss::Nothing
 }
 
 // A section's count.
@@ -174,9 +181,12 @@ fn look_count(book: &[u8], section: Section, at: usize) -> Look
     ensures { λ r. ⌜ r ≡ countIn section (now (book .entry)) at ⌝ }
 {
     if cut(book, at, 1) {
-        return Look::Faulty(Fault::Short);
+        return Look::Faulty(Fault::Short, at);
     }
-    count_look(section, count_at(book, at))
+    match count_amiss(section, count_at(book, at)) {
+        Amiss::Nothing => Look::Sound,
+        Amiss::Field(fault, _) => Look::Faulty(fault, at),
+    }
 }
 
 // A permission's code.
@@ -184,25 +194,49 @@ fn look_code(book: &[u8], cursor: Cursor) -> Look
     ensures { λ r. ⌜ r ≡ entryLook codes (now (book .entry)) 0 (cursor .before) (cursor .at) ⌝ }
 {
     if cut(book, cursor.at, CODE_WIDTH) {
-        return Look::Faulty(Fault::Short);
+        return Look::Faulty(Fault::Short, cursor.at);
     }
     if stays(book, Section::Permissions, cursor) {
-        return Look::Faulty(Fault::Code);
+        return Look::Faulty(Fault::Code, cursor.at);
     }
     Look::Sound
 }
 
-// What is told of a whole row whose staff number does not ascend, or whose holdings go beyond the listed permissions.
-pub fn row_look(low: bool, beyond: bool) -> Look
-    ensures { λ r. ⌜ r ≡ rowLook low beyond ⌝ }
+// Which field of a row its holdings are.
+fn holdings_field(form: Form) -> usize
+    ensures { λ r. ⌜ r ≡ holdingsField (hasPersons form) ⌝ }
+{
+    match form {
+        Form::Old => 1,
+        Form::Persons => 2,
+    }
+}
+
+// What is amiss with a row whose staff number does not ascend, or whose holdings go beyond the listed permissions.
+pub fn row_amiss(form: Form, low: bool, beyond: bool) -> Amiss
+    ensures { λ r. ⌜ r ≡ rowAmiss (hasPersons form) low beyond ⌝ }
 {
     if low {
-        return Look::Faulty(Fault::Staff);
+        return Amiss::Field(Fault::Staff, 0);
     }
     if beyond {
-        return Look::Faulty(Fault::Holdings);
+        return Amiss::Field(Fault::Holdings, holdings_field(form));
     }
-    Look::Sound
+    Amiss::Nothing
+}
+
+// Where the first field of a row starts that a book which ends in this row does not have whole. Each field of a row is four bytes.
+fn cut_row(book: &[u8], at: usize) -> usize
+    requires { ⌜ length (now book) < at + 12 ⌝ }
+    ensures { λ r. ⌜ r ≡ cutPlace (rowWidths true) (length (now (book .entry))) at ⌝ }
+{
+    if cut(book, at, 4) {
+        return at;
+    }
+    if cut(book, at + 4, 4) {
+        return at + 4;
+    }
+    at + 8
 }
 
 // The row whose fields stand here. An old one has no person number: its staff number stands for it.
@@ -232,13 +266,17 @@ fn look_row(book: &[u8], form: Form, listed: usize, cursor: Cursor) -> Look
 {
     let at = cursor.at;
     if cut(book, at, row_width(form)) {
-        return Look::Faulty(Fault::Short);
+        return Look::Faulty(Fault::Short, cut_row(book, at));
     }
     let row = row_from(book, form, at);
-    row_look(
+    match row_amiss(
+        form,
         stays(book, Section::Rows, cursor),
         past_listed(listed, row.holdings),
-    )
+    ) {
+        Amiss::Nothing => Look::Sound,
+        Amiss::Field(fault, field) => Look::Faulty(fault, at + 4 * field),
+    }
 }
 
 // The policy whose fields stand here, or its own first fault.
@@ -253,18 +291,57 @@ pub(crate) fn policy_from(book: &[u8], at: usize) -> Made
     Policy::new(task, away, crews, size)
 }
 
+// Where the first field of a policy starts that a book which ends in this policy does not have whole. After P each field is one byte.
+fn cut_policy(book: &[u8], at: usize) -> usize
+    requires { ⌜ length (now book) < at + 7 ⌝ }
+    ensures { λ r. ⌜ r ≡ cutPlace policyWidths (length (now (book .entry))) at ⌝ }
+{
+    if cut(book, at, TASK_WIDTH) {
+        return at;
+    }
+    book.len()
+}
+
+// The field that a policy's own refusal speaks of.
+pub fn policy_field(refusal: Refusal) -> usize
+    ensures { λ r. ⌜ r ≡ fieldOf refusal ⌝ }
+{
+    match refusal {
+        Refusal::Rows => 0,
+        Refusal::Task => 0,
+        Refusal::Away => 1,
+        Refusal::Crews => 2,
+        Refusal::Size => 3,
+        Refusal::Absence => 0,
+    }
+}
+
+// How far into a policy that field starts.
+fn policy_offset(refusal: Refusal) -> usize
+    ensures { λ r. ⌜ r ≡ fieldPlace policyWidths 0 (fieldOf refusal) ⌝ }
+{
+    match refusal {
+        Refusal::Rows => 0,
+        Refusal::Task => 0,
+        Refusal::Away => 4,
+        Refusal::Crews => 5,
+        Refusal::Size => 6,
+        Refusal::Absence => 0,
+    }
+}
+
 // A policy.
 fn look_policy(book: &[u8], listed: usize, at: usize) -> Look
     ensures { λ r. ⌜ r ≡ entryLook policies (now (book .entry)) listed Before.Nothing at ⌝ }
 {
     if cut(book, at, POLICY_WIDTH) {
-        return Look::Faulty(Fault::Short);
+        return Look::Faulty(Fault::Short, cut_policy(book, at));
     }
     if past_listed(listed, four(book, at)) {
-        return Look::Faulty(Fault::Task);
+        return Look::Faulty(Fault::Task, at);
     }
     match policy_from(book, at) {
-        Made::Refused(refusal) => Look::Faulty(Fault::Policy(refusal)),
+        Made::Refused(refusal) => Look::Faulty(Fault::Policy(refusal), at + policy_offset(refusal)),
         Made::Policy(_) => Look::Sound,
     }
 }
@@ -314,8 +391,8 @@ fn entries(
     let mut left = count;
     while left > 0 {
         match look_entry(book, form, section, listed, cursor) {
-            Look::Faulty(fault) => {
-                return Step::Refused(fault, cursor.at);
+            Look::Faulty(fault, place) => {
+                return Step::Refused(fault, place);
             }
             Look::Sound => {}
         }
@@ -336,7 +413,7 @@ pub(crate) fn section_step(
     ensures { λ r. ⌜ r ≡ stepIn form section (now (book .entry)) listed at ⌝ }
 {
     match look_count(book, section, at) {
-        Look::Faulty(fault) => Step::Refused(fault, at),
+        Look::Faulty(fault, place) => Step::Refused(fault, place),
         Look::Sound => entries(book, form, section, listed, at + 1, count_at(book, at)),
     }
 }

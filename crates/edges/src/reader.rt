@@ -35,21 +35,25 @@ pub(crate) fn bad(number: u32, place: usize) -> Line {
         .number(place as u64)
 }
 
-// Where the count or the entry starts that is not whole if B is cut to this length.
+// Where the count or the field starts that is not whole if B is cut to this length.
 fn cut_place(length: usize) -> usize {
     match length {
         0 => 0,
         1..=2 => 1,
         3..=4 => 3,
         5 => 5,
-        6..=13 => 6,
-        14..=21 => 14,
-        22..=29 => 22,
-        30..=37 => 30,
-        38 => 38,
-        39..=45 => 39,
-        46..=52 => 46,
-        _ => 53,
+        6..=9 => 6,
+        10..=13 => 10,
+        14..=17 => 14,
+        18..=21 => 18,
+        22..=25 => 22,
+        26..=29 => 26,
+        30..=33 => 30,
+        34..=37 => 34,
+        39..=42 => 39,
+        46..=49 => 46,
+        53..=56 => 53,
+        _ => length,
     }
 }
 
@@ -65,12 +69,16 @@ fn longest_place(length: usize) -> usize {
         return 65;
     }
     if length < 578 {
-        return length - (length - 66) % 8;
+        return length - (length - 66) % 4;
     }
     if length < 579 {
         return 578;
     }
-    length - (length - 579) % 7
+    let within = (length - 579) % 7;
+    if within < 4 {
+        return length - within;
+    }
+    length
 }
 
 // One cut: 11 at this place.

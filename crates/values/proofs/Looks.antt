@@ -13,21 +13,22 @@ use borrow.Author.Tests.{ltb-false}
 use Rattle.sets.specs.Arrays.{tabulate}
 use Rattle.sets.specs.Laws.Arrays.{length-tabulate}
 use Rattle.roster.specs.Laws.Rulings.{inside}
-use Rattle.book.specs.Reading.{Kind, codes, rowsOf, policies, faultIf, notAbove, staffOf}
-use Rattle.book.specs.Steps.{countLookIn}
-use Rattle.book.specs.Laws.First.{not-faulty}
+use Rattle.book.specs.Reading.{Kind, codes, rowsOf, policies, amissIf, notAbove, staffOf}
+use Rattle.book.specs.Inner.Steps.{countAmissIn}
+use Rattle.book.specs.Laws.First.{not-amiss}
 use Rattle.book.specs.declared.Form.{Form}
 use Rattle.book.specs.declared.Form.the-variants.{Old, Persons}
 use Rattle.book.specs.declared.Row.{Row}
 use Rattle.book.specs.declared.Fault.{Fault}
-use Rattle.book.specs.declared.Look.{Look}
-use Rattle.book.specs.declared.Look.the-variants.{Sound, Faulty}
+use Rattle.book.specs.declared.Amiss.{Amiss}
+use Rattle.book.specs.declared.Amiss.the-variants.{Nothing, Field}
 use Rattle.book.specs.declared.Section.{Section}
 use Rattle.book.specs.declared.Section.the-variants.{Permissions, Rows, Policies}
 use Rattle.values.specs.Values.{rowFor, contentsFor}
 use Rattle.values.specs.Writing.{valueLooks, sectionIn, firstOf, faultIn}
 use Rattle.values.specs.Laws.First.{orElse, first-append, neither, none-head}
 use Rattle.values.specs.Inner.Looks.{limitIn, countOf, Counted, codeIn, rowIn, policyIn, priorTo, leadOf, staysAt, lookWith, sectionLooks, told}
+use Rattle.values.specs.declared.First.the-variants as first
 use Rattle.values.specs.declared.Values.{Values}
 
 -- ---- one entry
@@ -65,7 +66,7 @@ module _ {A : Type 0} (kind : Kind A) (listed : ℕ) where
   unfolding valueLooks tabulate
   looks-after b zero f = refl
   looks-after b (suc n) f =
-      ap (λ (l : List Look). kind .faults listed b (f 0) ∷ l)
+      ap (λ (l : List Amiss). kind .faults listed b (f 0) ∷ l)
       (looks-after (some (f 0)) n (λ i. f (suc i))
       ∙ ap (tabulate n) (fun-ext (λ i. ap (λ (o : Option A). kind .faults listed o (f (suc i))) (shift i))))
     where
@@ -84,46 +85,46 @@ module _ {A : Type 0} (kind : Kind A) (listed : ℕ) where
 -- ---- the first fault
 
 -- of the looks at entries in their order
-pub first-at : (n : ℕ) (look : ℕ → Look) (i : ℕ) (f : Fault) → i < n → ((j : ℕ) → j < i → look j ≡ Sound) → look i ≡ Faulty f
+pub first-at : (n : ℕ) (look : ℕ → Amiss) (i : ℕ) (f : Fault) (k : ℕ) → i < n → ((j : ℕ) → j < i → look j ≡ Nothing) → look i ≡ Field f k
     → firstOf (tabulate n look) ≡ some f
 unfolding firstOf tabulate
-first-at zero look i f l h e = absurd (omega arith)
-first-at (suc n) look zero f l h e = rw e
-first-at (suc n) look (suc i) f l h e =
-    rw (h 0 (omega arith)) (first-at n (λ j. look (suc j)) i f (omega arith) (λ j k. h (suc j) (omega arith)) e)
+first-at zero look i f k l h e = absurd (omega arith)
+first-at (suc n) look zero f k l h e = rw e
+first-at (suc n) look (suc i) f k l h e =
+    rw (h 0 (omega arith)) (first-at n (λ j. look (suc j)) i f k (omega arith) (λ j m. h (suc j) (omega arith)) e)
 
-pub first-none : (n : ℕ) (look : ℕ → Look) → ((j : ℕ) → j < n → look j ≡ Sound) → firstOf (tabulate n look) ≡ none
+pub first-none : (n : ℕ) (look : ℕ → Amiss) → ((j : ℕ) → j < n → look j ≡ Nothing) → firstOf (tabulate n look) ≡ none
 unfolding firstOf tabulate
 first-none zero look h = refl
 first-none (suc n) look h = rw (h 0 (omega arith)) (first-none n (λ j. look (suc j)) (λ j k. h (suc j) (omega arith)))
 
--- one sound look more
-pub one-more : (look : ℕ → Look) (i : ℕ) → ((j : ℕ) → j < i → look j ≡ Sound) → look i ≡ Sound → (j : ℕ) → j < i + 1 → look j ≡ Sound
+-- one more without a fault
+pub one-more : (look : ℕ → Amiss) (i : ℕ) → ((j : ℕ) → j < i → look j ≡ Nothing) → look i ≡ Nothing → (j : ℕ) → j < i + 1 → look j ≡ Nothing
 one-more look i h e j l = go (ℕ-discrete j i)
   where
-    go : Dec (j ≡ i) → look j ≡ Sound
+    go : Dec (j ≡ i) → look j ≡ Nothing
     go (yes q) = ap look q ∙ e
     go (no n) = h j (omega arith)
 
 -- of a look and those after it
-pub first-faulty : {x : Look} {f : Fault} (l : List Look) → x ≡ Faulty f → firstOf (x ∷ l) ≡ some f
+pub first-faulty : {x : Amiss} {f : Fault} {k : ℕ} (l : List Amiss) → x ≡ Field f k → firstOf (x ∷ l) ≡ some f
 unfolding firstOf
 first-faulty l e = rw e
 
-pub first-sound : {x : Look} (l : List Look) → x ≡ Sound → firstOf (x ∷ l) ≡ firstOf l
+pub first-sound : {x : Amiss} (l : List Amiss) → x ≡ Nothing → firstOf (x ∷ l) ≡ firstOf l
 unfolding firstOf
 first-sound l e = rw e
 
 -- of looks and those after them
-pub append-by : {o : Option Fault} (l m : List Look) → firstOf l ≡ o → firstOf (l ++ m) ≡ orElse o (firstOf m)
+pub append-by : {o : Option Fault} (l m : List Amiss) → firstOf l ≡ o → firstOf (l ++ m) ≡ orElse o (firstOf m)
 append-by l m e = first-append l m ∙ ap (λ (x : Option Fault). orElse x (firstOf m)) e
 
 -- what is told says which it is
-pub told-faulty : {f : Fault} (o : Option Fault) → told o ≡ Faulty f → o ≡ some f
+pub told-faulty : {f : Fault} (o : Option Fault) → told o ≡ first.Fault f → o ≡ some f
 told-faulty none e = let z : _≡_ {A = ℕ} 0 1 = cc in cc
 told-faulty (some g) e = cc
 
-pub told-sound : (o : Option Fault) → told o ≡ Sound → o ≡ none
+pub told-sound : (o : Option Fault) → told o ≡ first.Nothing → o ≡ none
 told-sound none e = refl
 told-sound (some g) e = let z : _≡_ {A = ℕ} 0 1 = cc in cc
 
@@ -131,13 +132,13 @@ told-sound (some g) e = let z : _≡_ {A = ℕ} 0 1 = cc in cc
 
 -- the looks at a section are those at the list that is meant
 section-looks : {A : Type 0} (kind : Kind A) (listed listed′ n : ℕ) (f : ℕ → A) → listed ≡ listed′
-    → sectionIn kind listed (tabulate n f) ≡ faultIf (kind .outOfRange n) (kind .countFault) Sound ∷ tabulate n (lookWith kind listed′ f)
+    → sectionIn kind listed (tabulate n f) ≡ amissIf (kind .outOfRange n) (kind .countFault) 0 Nothing ∷ tabulate n (lookWith kind listed′ f)
 section-looks kind listed listed′ n f e =
-    ap₂ (λ (k : ℕ) (l : List Look). faultIf (kind .outOfRange k) (kind .countFault) Sound ∷ l)
+    ap₂ (λ (k : ℕ) (l : List Amiss). amissIf (kind .outOfRange k) (kind .countFault) 0 Nothing ∷ l)
     (length-tabulate n f)
     (looks-by-index kind listed n f ∙ ap (λ (k : ℕ). tabulate n (lookWith kind k f)) e)
 
-abbrev pub allLooks : Values → List Look
+abbrev pub allLooks : Values → List Amiss
 allLooks v = sectionLooks v Permissions ++ (sectionLooks v Rows ++ sectionLooks v Policies)
 
 -- what is looked at in a row is in the fields of every form
@@ -154,19 +155,19 @@ fault-by-sections v =
     let n = v .«code_count» in
     let bare = ap (tabulate (countOf v Rows)) (fun-ext (row-look (v .form) n (rowIn v))) in
     ap firstOf
-    (ap₂ (λ (l m : List Look). l ++ m) (section-looks codes 0 0 (countOf v Permissions) (codeIn v) refl)
-    (ap₂ (λ (l m : List Look). l ++ m) (section-looks (rowsOf (v .form)) _ n (countOf v Rows) (λ i. rowFor (v .form) (rowIn v i)) listed ∙ ap (λ (l : List Look). countLookIn Rows (countOf v Rows) ∷ l) bare)
+    (ap₂ (λ (l m : List Amiss). l ++ m) (section-looks codes 0 0 (countOf v Permissions) (codeIn v) refl)
+    (ap₂ (λ (l m : List Amiss). l ++ m) (section-looks (rowsOf (v .form)) _ n (countOf v Rows) (λ i. rowFor (v .form) (rowIn v i)) listed ∙ ap (λ (l : List Amiss). countAmissIn Rows (countOf v Rows) ∷ l) bare)
     (section-looks policies _ (v .«code_count») (countOf v Policies) (policyIn v) listed)))
 
--- a count that is sound is within its limit
-pub count-within : (section : Section) (n : ℕ) → countLookIn section n ≡ Sound → n ≤ limitIn section
-count-within Permissions n e = inside _ n (not-faulty _ _ _ e .0) .1
-count-within Rows n e = ltb-false _ _ (not-faulty _ _ _ e .0)
-count-within Policies n e = ltb-false _ _ (not-faulty _ _ _ e .0)
+-- a count that nothing is amiss with is within its limit
+pub count-within : (section : Section) (n : ℕ) → countAmissIn section n ≡ Nothing → n ≤ limitIn section
+count-within Permissions n e = inside _ n (not-amiss _ _ _ _ e .0) .1
+count-within Rows n e = ltb-false _ _ (not-amiss _ _ _ _ e .0)
+count-within Policies n e = ltb-false _ _ (not-amiss _ _ _ _ e .0)
 
 -- what is told of a section's count, by what it is known to be
-pub count-told : {r t : Look} {n : ℕ} (section : Section) (m : ℕ) → r ≡ countLookIn section n → n ≡ m → r ≡ t → countLookIn section m ≡ t
-count-told section m e h w = ap (countLookIn section) (sym h) ∙ sym e ∙ w
+pub count-told : {r t : Amiss} {n : ℕ} (section : Section) (m : ℕ) → r ≡ countAmissIn section n → n ≡ m → r ≡ t → countAmissIn section m ≡ t
+count-told section m e h w = ap (countAmissIn section) (sym h) ∙ sym e ∙ w
 
 -- values without a fault have no more entries than there is room for
 pub sound-counted : (v : Values) → faultIn (contentsFor v) ≡ none → Counted v

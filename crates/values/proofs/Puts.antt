@@ -13,7 +13,7 @@ use Rattle.book.specs.Laws.Books.{lead-front}
 use Rattle.book.specs.declared.Form.{Form}
 use Rattle.book.specs.declared.Form.the-variants.{Old, Persons}
 use Rattle.book.specs.declared.Row.{Row}
-use Rattle.book.specs.Steps.{widthIn}
+use Rattle.book.specs.Inner.Steps.{widthIn}
 use Rattle.book.specs.declared.Section.{Section}
 use Rattle.book.specs.declared.Section.the-variants.{Permissions, Rows, Policies}
 use Rattle.values.specs.Values.{rowFor, contentsFor}

@@ -19,15 +19,13 @@ use Rattle.roster.specs.declared.Policy.{Policy}
 use Rattle.roster.specs.declared.Refusal.the-variants as refusal
 use Rattle.book.specs.Layout.{Contents, hasPersons, bytesOf, Each}
 use Rattle.book.specs.Laws.Values.{RowFits}
-use Rattle.book.specs.Reading.{codes, rowsOf, policies, faultIf, pastListed}
+use Rattle.book.specs.Reading.{codes, rowsOf, policies, amissIf, pastListed}
 use Rattle.book.specs.Faults.{EntryNumber}
 use Rattle.book.specs.declared.Form.the-variants.{Old}
 use Rattle.book.specs.declared.Fault.{Fault}
 use Rattle.book.specs.declared.Fault.the-variants as fault
-use Rattle.book.specs.declared.Look.{Look}
-use Rattle.book.specs.declared.Look.the-variants.{Sound}
-use Rattle.book.specs.declared.Reading.{Reading}
-use Rattle.book.specs.declared.Reading.the-variants.{Good, Refused}
+use Rattle.book.specs.declared.Amiss.{Amiss}
+use Rattle.book.specs.declared.Amiss.the-variants as amiss
 use Rattle.values.specs.Writing.{valueLooks, sectionIn, faultIn}
 use Rattle.values.specs.declared.Unwritten.the-variants as unwritten
 use Rattle.values.specs.declared.Wrote.{Wrote}
@@ -76,20 +74,15 @@ outcomeOf v old = outcomeBy (faultIn v) (ltb (length old) (length (bytesOf v))) 
 
 -- ---- which refusals
 
--- the fault that the reader tells, without its place
-abbrev pub faultOf : Reading → Option Fault
-faultOf (Good starts) = none
-faultOf (Refused f at) = some f
-
 -- what is looked at before s, d and t of a policy that has these before it: codes, rows, the count, those policies, and its own P
-abbrev pub looksTo : Contents → List Policy → Policy → List Look
+abbrev pub looksTo : Contents → List Policy → Policy → List Amiss
 looksTo v before p =
     let listed = length (v .codes) in
     sectionIn codes 0 (v .codes)
     ++ (sectionIn (rowsOf (v .form)) listed (v .rows)
-    ++ (faultIf (policies .outOfRange (length (v .policies))) (policies .countFault) Sound
+    ++ (amissIf (policies .outOfRange (length (v .policies))) (policies .countFault) 0 amiss.Nothing
     ∷ (valueLooks policies listed none before
-    ++ (faultIf (pastListed listed (p .task)) fault.Task (faultIf (eqb (p .task) 0) (fault.Policy refusal.Task) Sound) ∷ []))))
+    ++ (amissIf (pastListed listed (p .task)) fault.Task 0 (amissIf (eqb (p .task) 0) (fault.Policy refusal.Task) 0 amiss.Nothing) ∷ []))))
 
 -- a number that values are refused with: that of a count or an entry, or 20
 abbrev pub WriterNumber : ℕ → Type 0

@@ -7,10 +7,10 @@ use Prim.Native.Nat.{ℕ, _≤_, _<_}
 use lib.ListN.{length, drop}
 use Rattle.book.specs.Faults.{faultNumber}
 use Rattle.book.specs.Layout.{Contents, bytesOf}
-use Rattle.book.specs.Reading.{Kind, faultIf, codes, rowsOf, policies}
+use Rattle.book.specs.Reading.{Kind, amissIf, codes, rowsOf, policies}
 use Rattle.book.specs.declared.Fault.{Fault}
-use Rattle.book.specs.declared.Look.{Look}
-use Rattle.book.specs.declared.Look.the-variants.{Sound, Faulty}
+use Rattle.book.specs.declared.Amiss.{Amiss}
+use Rattle.book.specs.declared.Amiss.the-variants.{Nothing, Field}
 use Rattle.values.specs.declared.Unwritten.{Unwritten}
 use Rattle.values.specs.declared.Unwritten.the-variants as unwritten
 use Rattle.values.specs.declared.Wrote.{Wrote}
@@ -24,24 +24,24 @@ unwrittenNumber unwritten.Room = 20
 -- ---- what is looked at, in reading order
 
 -- values one after the other, each beside the one before
-unfoldable pub valueLooks : {A : Type 0} → Kind A → ℕ → Option A → List A → List Look
+unfoldable pub valueLooks : {A : Type 0} → Kind A → ℕ → Option A → List A → List Amiss
 valueLooks kind listed before [] = []
 valueLooks kind listed before (x ∷ l) = kind .faults listed before x ∷ valueLooks kind listed (some x) l
 
 -- a section: its count, then its values
-abbrev pub sectionIn : {A : Type 0} → Kind A → ℕ → List A → List Look
-sectionIn kind listed l = faultIf (kind .outOfRange (length l)) (kind .countFault) Sound ∷ valueLooks kind listed none l
+abbrev pub sectionIn : {A : Type 0} → Kind A → ℕ → List A → List Amiss
+sectionIn kind listed l = amissIf (kind .outOfRange (length l)) (kind .countFault) 0 Nothing ∷ valueLooks kind listed none l
 
-abbrev pub looksIn : Contents → List Look
+abbrev pub looksIn : Contents → List Amiss
 looksIn v =
     sectionIn codes 0 (v .codes)
     ++ (sectionIn (rowsOf (v .form)) (length (v .codes)) (v .rows)
     ++ sectionIn policies (length (v .codes)) (v .policies))
 
--- the first fault, if there is one
-unfoldable pub firstOf : List Look → Option Fault
+-- the first fault, if there is one; of which field it is plays no part, "with place 0"
+unfoldable pub firstOf : List Amiss → Option Fault
 firstOf [] = none
-firstOf (x ∷ l) = elim x [ Sound ↦ firstOf l | Faulty f ↦ some f ]
+firstOf (x ∷ l) = elim x [ Nothing ↦ firstOf l | Field f k ↦ some f ]
 
 abbrev pub faultIn : Contents → Option Fault
 faultIn v = firstOf (looksIn v)

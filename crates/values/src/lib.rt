@@ -6,7 +6,6 @@ mod put;
 
 use book::Fault;
 use book::Form;
-use book::Look;
 use book::PERMISSIONS;
 use book::POLICIES;
 use book::Row;
@@ -51,6 +50,12 @@ pub enum Unwritten {
 pub enum Wrote {
     Written(usize),
     Refused(Unwritten, usize),
+}
+
+// The first fault of values, if there is one. Of which field it is plays no part: there is no place in a book that is not written.
+enum First {
+    Nothing,
+    Fault(Fault),
 }
 
 impl Unwritten {
@@ -118,10 +123,10 @@ pub fn write(values: Values, out: &mut [u8]) -> Wrote
     ensures limit { λ _. do ⌜ (← ⟦LONGEST⟧ .entry) ≡ longest ⌝ }
 {
     match first_fault(values) {
-        Look::Faulty(fault) => {
+        First::Fault(fault) => {
             return Wrote::Refused(Unwritten::Fault(fault), 0);
         }
-        Look::Sound => {}
+        First::Nothing => {}
     }
     if out.len() < length_of(values) {
         return Wrote::Refused(Unwritten::Room, 0);

@@ -1,13 +1,15 @@
 // What is amiss with values, in reading order: a section's count, then its entries, each beside the one before. specs/Inner/Looks says what
 // each function answers.
+use crate::First;
 use crate::Values;
+use book::Amiss;
 use book::Fault;
-use book::Look;
 use book::Row;
 use book::Section;
-use book::sections::count_look;
+use book::sections::count_amiss;
 use book::sections::past_listed;
-use book::sections::row_look;
+use book::sections::policy_field;
+use book::sections::row_amiss;
 use roster::Made;
 use roster::Policy;
 ghost use mathlib.Core.Path.{_≡_};
@@ -86,42 +88,44 @@ fn stays(values: Values, section: Section, i: usize) -> bool
 }
 
 // A permission's code.
-fn look_code(values: Values, i: usize) -> Look
+fn look_code(values: Values, i: usize) -> Amiss
     requires { ⌜ i < limitIn Section.Permissions ⌝ }
     ensures { λ r. ⌜ r ≡ lookAt values Section.Permissions i ⌝ }
 {
     if stays(values, Section::Permissions, i) {
-        return Look::Faulty(Fault::Code);
+        return Amiss::Field(Fault::Code, 0);
     }
-    Look::Sound
+    Amiss::Nothing
 }
 
 // A row.
-fn look_row(values: Values, i: usize) -> Look
+fn look_row(values: Values, i: usize) -> Amiss
     requires { ⌜ i < limitIn Section.Rows ⌝ }
     ensures { λ r. ⌜ r ≡ lookAt values Section.Rows i ⌝ }
 {
-    row_look(
+    let form = values.form;
+    row_amiss(
+        form,
         stays(values, Section::Rows, i),
         past_listed(values.code_count, row_in(values, i).holdings),
     )
 }
 
 // A policy, where so many permissions are listed.
-fn policy_look(listed: usize, policy: Policy) -> Look
+fn policy_look(listed: usize, policy: Policy) -> Amiss
     ensures { λ r. ⌜ r ≡ policies .faults listed none policy ⌝ }
 {
     if past_listed(listed, policy.task) {
-        return Look::Faulty(Fault::Task);
+        return Amiss::Field(Fault::Task, 0);
     }
     match Policy::new(policy.task, policy.away, policy.crews, policy.size) {
-        Made::Refused(refusal) => Look::Faulty(Fault::Policy(refusal)),
-        Made::Policy(_) => Look::Sound,
+        Made::Refused(refusal) => Amiss::Field(Fault::Policy(refusal), policy_field(refusal)),
+        Made::Policy(_) => Amiss::Nothing,
     }
 }
 
 // An entry of the section.
-fn look_value(values: Values, section: Section, i: usize) -> Look
+fn look_value(values: Values, section: Section, i: usize) -> Amiss
     requires { ⌜ i < limitIn section ⌝ }
     ensures { λ r. ⌜ r ≡ lookAt values section i ⌝ }
 {
@@ -133,49 +137,49 @@ fn look_value(values: Values, section: Section, i: usize) -> Look
 }
 
 // A section's entries, as many as are meant.
-fn look_values(values: Values, section: Section, count: usize) -> Look
+fn look_values(values: Values, section: Section, count: usize) -> First
     requires { ⌜ (count ≡ countOf values section) × (count ≤ limitIn section) ⌝ }
     ensures { λ r. ⌜ r ≡ firstLook (entryLooks values section) ⌝ }
 {
     let mut i = 0;
     while i < count {
         match look_value(values, section, i) {
-            Look::Faulty(fault) => {
-                return Look::Faulty(fault);
+            Amiss::Field(fault, _) => {
+                return First::Fault(fault);
             }
-            Look::Sound => {}
+            Amiss::Nothing => {}
         }
         i += 1;
     }
-    Look::Sound
+    First::Nothing
 }
 
 // A section: its count, then its entries. A count out of range is told before any entry is looked at.
-fn look_section(values: Values, section: Section) -> Look
+fn look_section(values: Values, section: Section) -> First
     ensures { λ r. ⌜ r ≡ firstLook (sectionLooks values section) ⌝ }
 {
     let count = count_of(values, section);
-    match count_look(section, count) {
-        Look::Faulty(fault) => Look::Faulty(fault),
-        Look::Sound => look_values(values, section, count),
+    match count_amiss(section, count) {
+        Amiss::Field(fault, _) => First::Fault(fault),
+        Amiss::Nothing => look_values(values, section, count),
     }
 }
 
 // The first fault of all.
-pub(crate) fn first_fault(values: Values) -> Look
+pub(crate) fn first_fault(values: Values) -> First
     ensures { λ r. ⌜ r ≡ told (faultIn (contentsFor values)) ⌝ }
 {
     match look_section(values, Section::Permissions) {
-        Look::Faulty(fault) => {
-            return Look::Faulty(fault);
+        First::Fault(fault) => {
+            return First::Fault(fault);
         }
-        Look::Sound => {}
+        First::Nothing => {}
     }
     match look_section(values, Section::Rows) {
-        Look::Faulty(fault) => {
-            return Look::Faulty(fault);
+        First::Fault(fault) => {
+            return First::Fault(fault);
         }
-        Look::Sound => {}
+        First::Nothing => {}
     }
     look_section(values, Section::Policies)
 }

@@ -7,7 +7,7 @@ use lib.ListN.{length}
 use borrow.Author.Tests.{ltb-true, ltb-false}
 use Rattle.book.specs.Reading.{countAt}
 use Rattle.book.specs.Parts.{placeOf}
-use Rattle.book.specs.Steps.{widthIn}
+use Rattle.book.specs.Inner.Steps.{widthIn}
 use Rattle.book.specs.Laws.Places.{place-past, place-cut, place-at, counted}
 use Rattle.book.proofs.Places.{near}
 use Rattle.book.proofs.place_of.Statement.{statement}

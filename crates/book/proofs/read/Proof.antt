@@ -3,9 +3,10 @@ use borrow.Author.Needs.{needs}
 use mathlib.Core.Path.{_≡_, sym, ap, _∙_}
 use mathlib.Core.List.{List}
 use Prim.Native.Nat.{ℕ}
-use Rattle.book.specs.Reading.{Found, front, startsOf, looksFromRows, readBy, readOf}
-use Rattle.book.specs.Steps.{pastIn, stepIn, readRows}
+use Rattle.book.specs.Reading.{front, startsOf, looksFromRows, readBy, readOf}
+use Rattle.book.specs.Inner.Steps.{pastIn, stepIn, readRows}
 use Rattle.book.specs.declared.Form.{Form}
+use Rattle.book.specs.declared.Look.{Look}
 use Rattle.book.specs.declared.Section.the-variants.{Permissions}
 use Rattle.book.specs.declared.Reading.the-variants as read
 use Rattle.book.proofs.Looks.{both, read-refused, read-on}
@@ -13,7 +14,7 @@ use Rattle.book.proofs.read.Statement.{statement}
 use Rattle.book.proofs.read.Tie as tie
 
 -- what is looked at after the permissions
-abbrev rest : Form → List ℕ → List Found
+abbrev rest : Form → List ℕ → List Look
 rest form book = looksFromRows form book (pastIn form Permissions book (front form))
 
 form-of-requires : tie.Need-form-of-requires

@@ -4,9 +4,10 @@ use mathlib.Core.Path.{_≡_, sym, ap, _∙_}
 use mathlib.Core.List.{List, [], _∷_}
 use Prim.Native.Nat.{ℕ}
 use native.Mathlib.Omega.{arith}
-use Rattle.book.specs.Reading.{Found, front, countAt, listedIn, endLook}
-use Rattle.book.specs.Steps.{pastIn, readPolicies}
+use Rattle.book.specs.Reading.{front, countAt, listedIn, endLook}
+use Rattle.book.specs.Inner.Steps.{pastIn, readPolicies}
 use Rattle.book.specs.declared.Form.{Form}
+use Rattle.book.specs.declared.Look.{Look}
 use Rattle.book.specs.declared.Section.the-variants.{Policies}
 use Rattle.book.specs.declared.Fault.the-variants as fault
 use Rattle.book.specs.declared.Reading.{Reading}
@@ -19,7 +20,7 @@ use Rattle.book.proofs.read_policies.Tie as tie
 abbrev good : Form → ℕ → ℕ → Reading
 good form rowsAt at = read.Good (record { permissions = front form; rows = rowsAt; policies = at })
 
-abbrev last : Form → List ℕ → ℕ → List Found
+abbrev last : Form → List ℕ → ℕ → List Look
 last form book at = endLook book (pastIn form Policies book at) ∷ []
 
 front-requires : tie.Need-front-requires

@@ -3,9 +3,10 @@ use borrow.Author.Needs.{needs}
 use mathlib.Core.Path.{_≡_, sym, ap, _∙_}
 use mathlib.Core.List.{List}
 use Prim.Native.Nat.{ℕ}
-use Rattle.book.specs.Reading.{Found, front, countAt, listedIn, looksFromPolicies}
-use Rattle.book.specs.Steps.{pastIn, readRows, readPolicies}
+use Rattle.book.specs.Reading.{front, countAt, listedIn, looksFromPolicies}
+use Rattle.book.specs.Inner.Steps.{pastIn, readRows, readPolicies}
 use Rattle.book.specs.declared.Form.{Form}
+use Rattle.book.specs.declared.Look.{Look}
 use Rattle.book.specs.declared.Section.the-variants.{Rows}
 use Rattle.book.specs.declared.Reading.{Reading}
 use Rattle.book.specs.declared.Reading.the-variants as read
@@ -17,7 +18,7 @@ use Rattle.book.proofs.read_rows.Tie as tie
 abbrev good : Form → List ℕ → ℕ → Reading
 good form book at = read.Good (record { permissions = front form; rows = at; policies = pastIn form Rows book at })
 
-abbrev rest : Form → List ℕ → ℕ → List Found
+abbrev rest : Form → List ℕ → ℕ → List Look
 rest form book at = looksFromPolicies form book (pastIn form Rows book at)
 
 front-requires : tie.Need-front-requires

@@ -65,14 +65,14 @@ module _ (form : Form) where
         first = section-sound codes codeFields code-codec book 0 (front form) (one .0);
         second = section-sound (rowsOf form) (rowFieldsOf form) (rowCodecOf form) book n (rowsAt form book) (two .0);
         third = section-sound policies policyFields policy-codec book n (policiesAt form book) (three .0);
-        ends = ltb-false (past policies book (policiesAt form book)) (length book) (not-faulty _ _ _ (three .1 .0) .0);
+        ends = ltb-false (past policies book (policiesAt form book)) (length book) (not-faulty _ _ _ _ (three .1 .0) .0);
       }
 
   pub book-sound : (book : List ℕ) → BookSound book → AllSound (looksBy form book)
   unfolding Each
   book-sound book s =
       let n = listedIn form book in
-      let end = no-fault (ltb (past policies book (policiesAt form book)) (length book)) fault.Excess Sound (le-ltb _ _ (s .ends)) refl in
+      let end = no-fault (ltb (past policies book (policiesAt form book)) (length book)) fault.Excess _ Sound (le-ltb _ _ (s .ends)) refl in
       append-sound (sectionLooks codes book 0 (front form)) (looksFromRows form book (rowsAt form book))
       (sound-section codes codeFields code-codec book 0 (front form) (s .first))
       (append-sound (sectionLooks (rowsOf form) book n (rowsAt form book)) (looksFromPolicies form book (policiesAt form book))

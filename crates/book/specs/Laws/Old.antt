@@ -12,7 +12,7 @@ use lib.ListN.{length, getD, getElem?}
 use borrow.Author.Tests.{ne-eqb, le-ltb}
 use Rattle.accounts.specs.Meaning.{Different}
 use Rattle.book.specs.Layout.{Contents, codeWidths, rowWidths, policyWidths, codeFields, rowFields, policyFields, fieldBytes, joined, section, bytesOf, Below, Ascends, Own, hasPersons, Admitted}
-use Rattle.book.specs.Reading.{Found, fieldsAt, codes, rows, policies, countLook, entryLook, inTurn, countAt, sectionLooks, past, formBy, formOf, endLook, firstFault, readBy, readOf}
+use Rattle.book.specs.Reading.{fieldsAt, codes, rows, policies, countLook, entryLook, inTurn, countAt, sectionLooks, past, formBy, formOf, endLook, firstFault, readBy, readOf}
 use Rattle.book.specs.Parts.{rowPlace, rowFrom, rowAt}
 use Rattle.book.specs.OldBooks.{OldRow, oldRows, oldWidths, oldFields, oldBytes, oldStarts, oldRead, oldRowFrom, oldRowAt}
 use Rattle.book.specs.Promises.{accountsFor}
@@ -21,6 +21,7 @@ use Rattle.book.specs.Laws.View.{there, account-of}
 use Rattle.book.specs.declared.Fault.the-variants as fault
 use Rattle.book.specs.declared.Form.{Form}
 use Rattle.book.specs.declared.Form.the-variants.{Old}
+use Rattle.book.specs.declared.Look.{Look}
 use Rattle.book.specs.declared.Before.{Before}
 use Rattle.book.specs.declared.Before.the-variants.{Nothing, Entry}
 use Rattle.book.specs.declared.Place.{Place}
@@ -47,7 +48,7 @@ rows-in-turn book listed before at (suc n) = rw (row-look-same book listed befor
 
 rows-looks : (book : List ℕ) (listed at : ℕ) → sectionLooks (rows false) book listed at ≡ sectionLooks oldRows book listed at
 unfolding sectionLooks countLook
-rows-looks book listed at = ap (λ (l : List Found). record { place = at; look = countLook oldRows book at } ∷ l) (rows-in-turn book listed Nothing (at + 1) (countAt book at))
+rows-looks book listed at = ap (λ (l : List Look). countLook oldRows book at ∷ l) (rows-in-turn book listed Nothing (at + 1) (countAt book at))
 
 -- a book that does not start with 200 is old
 pub other-old : (book : List ℕ) → getD book 0 0 ≢ 200 → formOf book ≡ Old
@@ -61,7 +62,7 @@ old-as-before book n =
     let s = oldStarts book in
     let end = sectionLooks policies book (countAt book 0) (s .policies) ++ (endLook book (past policies book (s .policies)) ∷ []) in
     ap (λ (f : Form). readBy f book) (other-old book n)
-    ∙ ap (λ (l : List Found). firstFault read.Refused (read.Good s) (sectionLooks codes book 0 0 ++ (l ++ end))) (rows-looks book (countAt book 0) (s .rows))
+    ∙ ap (λ (l : List Look). firstFault read.Refused (read.Good s) (sectionLooks codes book 0 0 ++ (l ++ end))) (rows-looks book (countAt book 0) (s .rows))
 
 -- "which can't start so": what starts with 200 was no good book before
 pub new-was-refused : (book : List ℕ) → getD book 0 0 ≡ 200 → oldRead book ≡ read.Refused fault.Permissions 0

@@ -1,7 +1,7 @@
 -- The reply to any byte string is the reply to its first 1,061 bytes: of a longer one nothing matters but those and that it is longer. Assumes
 -- nothing.
-use mathlib.Core.Path.{_≡_, refl, sym, ap, _∙_}
-use mathlib.Core.Bool.{false}
+use mathlib.Core.Path.{_≡_, refl, sym, ap, ap₂, _∙_}
+use mathlib.Core.Bool.{Bool, true, false}
 use mathlib.Core.Option.{some}
 use mathlib.Core.List.{List, [], _∷_, _++_}
 use Prim.Native.Nat.{ℕ, zero, suc, _+_, _*_, min, _≤_, _<_}
@@ -14,7 +14,7 @@ use lib.Seq.{getD-take}
 use borrow.Author.Tests.{lt-ltb, le-ltb, ltb-false}
 use Rattle.roster.specs.Limits.{rowLimit}
 use Rattle.book.specs.Layout.{permissionLimit, policyLimit}
-use Rattle.book.specs.Reading.{Found, Kind, number, fieldsAt, total, codes, rowsOf, policies, faultIf, width, entryAt, prior, countLook, entryLook, inTurn, countAt, sectionLooks, past, formOf, front, listedIn, endLook, firstFault, readBy, readOf}
+use Rattle.book.specs.Reading.{Kind, number, fieldsAt, total, cutPlace, codes, rowsOf, policies, faultIf, width, entryAt, prior, countLook, entryLook, inTurn, countAt, sectionLooks, past, formOf, front, listedIn, endLook, firstFault, readBy, readOf}
 use Rattle.book.specs.declared.Form.{Form}
 use Rattle.book.specs.declared.Form.the-variants.{Old, Persons}
 use Rattle.book.specs.Laws.First.{not-faulty, first-append}
@@ -55,10 +55,10 @@ agree-take n a = record { bytes = λ i l. sym (getD-take n a i 0 l); cut = λ m 
         lt-ltb _ _ h′ ∙ sym (lt-ltb _ _ k)
 
 -- two ways that part only where a look is sound
-by-look : {R : Type 0} (refused : Fault → ℕ → R) (at : ℕ) (k : Look) (x y : R) → (k ≡ Sound → x ≡ y)
-    → _≡_ {A = R} (elim k [ Sound ↦ x | Faulty f ↦ refused f at ]) (elim k [ Sound ↦ y | Faulty f ↦ refused f at ])
-by-look refused at Sound x y h = h refl
-by-look refused at (Faulty f) x y h = refl
+by-look : {R : Type 0} (refused : Fault → ℕ → R) (k : Look) (x y : R) → (k ≡ Sound → x ≡ y)
+    → _≡_ {A = R} (elim k [ Sound ↦ x | Faulty f at ↦ refused f at ]) (elim k [ Sound ↦ y | Faulty f at ↦ refused f at ])
+by-look refused Sound x y h = h refl
+by-look refused (Faulty f at) x y h = refl
 
 module _ (n : ℕ) (a b : List ℕ) (same : Agree n a b) where
   number-agree : (w at : ℕ) → at + w ≤ n → number w a at ≡ number w b at
@@ -70,6 +70,12 @@ module _ (n : ℕ) (a b : List ℕ) (same : Agree n a b) where
   unfolding fieldsAt
   fields-agree [] at h = refl
   fields-agree (w ∷ ws) at h = rw (number-agree w at (omega arith), fields-agree ws (at + w) (omega arith))
+
+  cut-agree : (ws : List ℕ) (at : ℕ) → at + total ws ≤ n → cutPlace ws (length a) at ≡ cutPlace ws (length b) at
+  unfolding cutPlace
+  cut-agree [] at h = refl
+  cut-agree (w ∷ ws) at h =
+      ap₂ (λ (b : Bool) (p : ℕ). elim b [ true ↦ at | false ↦ p ]) (same .cut (at + w) (omega arith)) (cut-agree ws (at + w) (omega arith))
 
   module _ {A : Type 0} (kind : Kind A) where
     entry-agree : (at : ℕ) → at + width kind ≤ n → entryAt kind a at ≡ entryAt kind b at
@@ -87,7 +93,7 @@ module _ (n : ℕ) (a b : List ℕ) (same : Agree n a b) where
     entry-look-agree : (listed : ℕ) (before : Before) (at : ℕ) → Ends before → at + width kind ≤ n
         → entryLook kind a listed before at ≡ entryLook kind b listed before at
     unfolding entryLook
-    entry-look-agree listed before at e h = rw (same .cut (at + width kind) h, prior-agree before e, entry-agree at h)
+    entry-look-agree listed before at e h = rw (same .cut (at + width kind) h, cut-agree (kind .widths) at h, prior-agree before e, entry-agree at h)
 
     in-turn-agree : (listed : ℕ) (before : Before) (at m : ℕ) → Ends before → at + width kind * m ≤ n
         → inTurn (entryLook kind a listed) (width kind) before at m ≡ inTurn (entryLook kind b listed) (width kind) before at m
@@ -109,10 +115,10 @@ module _ (n : ℕ) (a b : List ℕ) (same : Agree n a b) where
     in-range : (at : ℕ) → countLook kind b at ≡ Sound → kind .outOfRange (countAt b at) ≡ false
     unfolding countLook
     in-range at e =
-        let range = faultIf (kind .outOfRange (countAt b at)) (kind .countFault) Sound in
-        not-faulty (kind .outOfRange (countAt b at)) (kind .countFault) Sound (not-faulty (ltb (length b) (at + 1)) fault.Short range e .1) .0
+        let range = faultIf (kind .outOfRange (countAt b at)) (kind .countFault) at Sound in
+        not-faulty (kind .outOfRange (countAt b at)) (kind .countFault) at Sound (not-faulty (ltb (length b) (at + 1)) fault.Short at range e .1) .0
 
-    section-agree : {R : Type 0} (refused : Fault → ℕ → R) (g g′ : R) (rest rest′ : List Found) (listed at limit : ℕ)
+    section-agree : {R : Type 0} (refused : Fault → ℕ → R) (g g′ : R) (rest rest′ : List Look) (listed at limit : ℕ)
         → ((c : ℕ) → kind .outOfRange c ≡ false → c ≤ limit) → ((c : ℕ) → c ≤ limit → at + 1 + width kind * c ≤ n)
         → (countAt b at ≤ limit → firstFault refused g rest ≡ firstFault refused g′ rest′)
         → firstFault refused g (sectionLooks kind a listed at ++ rest) ≡ firstFault refused g′ (sectionLooks kind b listed at ++ rest′)
@@ -123,10 +129,10 @@ module _ (n : ℕ) (a b : List ℕ) (same : Agree n a b) where
         let la = inTurn (entryLook kind a listed) (width kind) Nothing (at + 1) (countAt b at) in
         let lb = inTurn (entryLook kind b listed) (width kind) Nothing (at + 1) (countAt b at) in
         rw (count-look-agree at here, count-agree at here)
-        (by-look refused at (countLook kind b at) (firstFault refused g (la ++ rest)) (firstFault refused g′ (lb ++ rest′)) λ e.
+        (by-look refused (countLook kind b at) (firstFault refused g (la ++ rest)) (firstFault refused g′ (lb ++ rest′)) λ e.
         let few = range (countAt b at) (in-range at e) in
         first-append refused g la rest
-        ∙ ap (λ (l : List Found). firstFault refused (firstFault refused g rest) l) (in-turn-agree listed Nothing (at + 1) (countAt b at) tt (room (countAt b at) few))
+        ∙ ap (λ (l : List Look). firstFault refused (firstFault refused g rest) l) (in-turn-agree listed Nothing (at + 1) (countAt b at) tt (room (countAt b at) few))
         ∙ ap (λ (x : R). firstFault refused x lb) (next few)
         ∙ sym (first-append refused g′ lb rest′))
 

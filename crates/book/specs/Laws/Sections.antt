@@ -12,12 +12,13 @@ use lib.ListN.{length, take, drop, length-append, take-append-drop}
 use lib.Seq.{drop-drop, drop-cons, take-add}
 use borrow.Author.Tests.{ltb-false, le-ltb}
 use Rattle.book.specs.Layout.{fieldBytes, joined, section, Each}
-use Rattle.book.specs.Reading.{Kind, fieldsAt, width, entryAt, prior, countLook, entryLook, inTurn, countAt, sectionLooks, past}
+use Rattle.book.specs.Reading.{Kind, placed, fieldsAt, width, entryAt, prior, countLook, entryLook, inTurn, countAt, sectionLooks, past}
 use Rattle.book.specs.Parts.{entriesAt, valuesAt}
 use Rattle.book.specs.Promises.{Bytes, AllSound}
-use Rattle.book.specs.Laws.First.{not-faulty, no-fault}
+use Rattle.book.specs.Laws.First.{not-faulty, no-fault, placed-sound}
 use Rattle.book.specs.Laws.Codec.{after, head-at, tail-at, Fit, fields-length, fields-read, fields-write, fields-fit}
 use Rattle.book.specs.declared.Fault.the-variants as fault
+use Rattle.book.specs.declared.Amiss.the-variants as amiss
 use Rattle.book.specs.declared.Look.the-variants.{Sound}
 use Rattle.book.specs.declared.Before.{Before}
 use Rattle.book.specs.declared.Before.the-variants.{Nothing, Entry}
@@ -121,7 +122,7 @@ module _ {A : Type 0} (kind : Kind A) (fields : A → List ℕ) (codec : Codec k
   -- each value has none of its faults, beside the one before it
   unfoldable pub Faultless : ℕ → Option A → List A → Type 0
   Faultless listed before [] = Unit
-  Faultless listed before (x ∷ vs) = (kind .faults listed before x ≡ Sound) × Faultless listed (some x) vs
+  Faultless listed before (x ∷ vs) = (kind .faults listed before x ≡ amiss.Nothing) × Faultless listed (some x) vs
 
   pub entries-sound : (book : List ℕ) (listed : ℕ) (before : Before) (at n : ℕ) → at ≤ length book
       → AllSound (inTurn (entryLook kind book listed) (width kind) before at n)
@@ -129,10 +130,10 @@ module _ {A : Type 0} (kind : Kind A) (fields : A → List ℕ) (codec : Codec k
   unfolding Each inTurn entriesAt entryLook Faultless
   entries-sound book listed before at zero h s = (omega arith, tt)
   entries-sound book listed before at (suc n) h s =
-      let here = not-faulty _ _ _ (s .0) in
+      let here = not-faulty _ _ _ _ (s .0) in
       let whole = ltb-false (length book) (at + width kind) (here .0) in
       let next = entries-sound book listed (Entry at) (at + width kind) n whole (s .1) in
-      (omega (arith, next .0, mul-suc (width kind) n), (here .1, next .1))
+      (omega (arith, next .0, mul-suc (width kind) n), (placed-sound _ _ _ (here .1), next .1))
 
   pub sound-entries : (book : List ℕ) (listed : ℕ) (before : Before) (at n : ℕ) → at + width kind * n ≤ length book
       → Faultless listed (prior (entryAt kind book) before) (entriesAt kind book at n)
@@ -142,7 +143,7 @@ module _ {A : Type 0} (kind : Kind A) (fields : A → List ℕ) (codec : Codec k
   sound-entries book listed before at (suc n) h s =
       let more = mul-suc (width kind) n in
       let whole : at + width kind ≤ length book = omega arith in (
-        no-fault _ fault.Short _ (le-ltb (length book) (at + width kind) whole) (s .0),
+        no-fault _ fault.Short _ _ (le-ltb (length book) (at + width kind) whole) (ap (placed (kind .widths) at) (s .0)),
         sound-entries book listed (Entry at) (at + width kind) n (omega arith) (s .1),
       )
 
@@ -155,14 +156,14 @@ module _ {A : Type 0} (kind : Kind A) (fields : A → List ℕ) (codec : Codec k
   pub section-sound : (book : List ℕ) (listed at : ℕ) → AllSound (sectionLooks kind book listed at) → SectionSound book listed at
   unfolding Each sectionLooks countLook past
   section-sound book listed at s =
-      let count = not-faulty _ _ _ (s .0) in
+      let count = not-faulty _ _ _ _ (s .0) in
       let rest = entries-sound book listed Nothing (at + 1) (countAt book at) (ltb-false (length book) (at + 1) (count .0)) (s .1) in
-      record { inRange = not-faulty _ _ _ (count .1) .0; whole = rest .0; values = rest .1 }
+      record { inRange = not-faulty _ _ _ _ (count .1) .0; whole = rest .0; values = rest .1 }
 
   pub sound-section : (book : List ℕ) (listed at : ℕ) → SectionSound book listed at → AllSound (sectionLooks kind book listed at)
   unfolding Each sectionLooks countLook past
   sound-section book listed at s =
       let whole : at + 1 ≤ length book = omega (arith, s .whole) in (
-        no-fault _ fault.Short _ (le-ltb (length book) (at + 1) whole) (no-fault _ (kind .countFault) Sound (s .inRange) refl),
+        no-fault _ fault.Short at _ (le-ltb (length book) (at + 1) whole) (no-fault _ (kind .countFault) at Sound (s .inRange) refl),
         sound-entries book listed Nothing (at + 1) (countAt book at) (s .whole) (s .values),
       )

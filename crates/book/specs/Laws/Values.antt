@@ -15,13 +15,13 @@ use Rattle.roster.specs.declared.Policy.{Policy}
 use Rattle.roster.specs.declared.Ruling.{Ruling}
 use Rattle.roster.specs.declared.Ruling.the-variants as ruling
 use Rattle.book.specs.Layout.{codeFields, rowFields, policyFields, permissionLimit, Own, Each, Below, Ascends, PolicyFits}
-use Rattle.book.specs.Reading.{Kind, fieldsAt, pastListed, rowLook, codes, rows, policies, byMade}
+use Rattle.book.specs.Reading.{Kind, fieldsAt, pastListed, rowAmiss, codes, rows, policies, byMade}
 use Rattle.book.specs.Laws.Codec.{Fit}
-use Rattle.book.specs.Laws.First.{not-faulty, no-fault}
+use Rattle.book.specs.Laws.First.{not-amiss, none-amiss}
 use Rattle.book.specs.Laws.Sections.{Codec, Fits, Faultless}
 use Rattle.book.specs.declared.Row.{Row}
 use Rattle.book.specs.declared.Fault.the-variants as fault
-use Rattle.book.specs.declared.Look.the-variants.{Sound}
+use Rattle.book.specs.declared.Amiss.the-variants.{Nothing}
 
 -- ---- a value and its fields
 
@@ -66,8 +66,8 @@ After key none l = Unit
 After key (some x) l = Below key x l
 
 module _ {A : Type 0} (kind : Kind A) (fields : A → List ℕ) (codec : Codec kind fields) (listed : ℕ) (key : A → ℕ) (more : A → Type 0)
-    (there : (before : Option A) (x : A) (l : List A) → kind .faults listed before x ≡ Sound → After key before (x ∷ l) × more x)
-    (back : (before : Option A) (x : A) (l : List A) → After key before (x ∷ l) → more x → kind .faults listed before x ≡ Sound) where
+    (there : (before : Option A) (x : A) (l : List A) → kind .faults listed before x ≡ Nothing → After key before (x ∷ l) × more x)
+    (back : (before : Option A) (x : A) (l : List A) → After key before (x ∷ l) → more x → kind .faults listed before x ≡ Nothing) where
   pub ascend : (before : Option A) (l : List A) → Faultless kind fields codec listed before l → After key before l × Ascends key l × Each more l
   unfolding Faultless Ascends Each Below
   ascend none [] h = (tt, tt, tt)
@@ -82,39 +82,38 @@ module _ {A : Type 0} (kind : Kind A) (fields : A → List ℕ) (codec : Codec k
   ascending before [] a s m = tt
   ascending before (x ∷ l) a s m = (back before x l a (m .0), ascending (some x) l (s .0) (s .1) (m .1))
 
-code-there : (listed : ℕ) (before : Option ℕ) (x : ℕ) (l : List ℕ) → codes .faults listed before x ≡ Sound → After (λ c. c) before (x ∷ l) × Unit {0}
+code-there : (listed : ℕ) (before : Option ℕ) (x : ℕ) (l : List ℕ) → codes .faults listed before x ≡ Nothing → After (λ c. c) before (x ∷ l) × Unit {0}
 unfolding Below
 code-there listed none x l e = (tt, tt)
-code-there listed (some y) x l e = (leb-false x y (not-faulty _ _ _ e .0), tt)
+code-there listed (some y) x l e = (leb-false x y (not-amiss _ _ _ _ e .0), tt)
 
-code-back : (listed : ℕ) (before : Option ℕ) (x : ℕ) (l : List ℕ) → After (λ c. c) before (x ∷ l) → Unit {0} → codes .faults listed before x ≡ Sound
+code-back : (listed : ℕ) (before : Option ℕ) (x : ℕ) (l : List ℕ) → After (λ c. c) before (x ∷ l) → Unit {0} → codes .faults listed before x ≡ Nothing
 unfolding Below
 code-back listed none x l a m = refl
-code-back listed (some y) x l a m = no-fault (leb x y) fault.Code Sound (lt-leb x y a) refl
+code-back listed (some y) x l a m = none-amiss (leb x y) fault.Code 0 Nothing (lt-leb x y a) refl
 
 -- a row is sound exactly if it has neither fault
-row-sound : (low beyond : Bool) → rowLook low beyond ≡ Sound → (low ≡ false) × (beyond ≡ false)
-row-sound false false e = (refl, refl)
-row-sound false true e = (refl, cc)
-row-sound true false e = (cc, refl)
-row-sound true true e = (cc, cc)
+row-sound : (persons low beyond : Bool) → rowAmiss persons low beyond ≡ Nothing → (low ≡ false) × (beyond ≡ false)
+row-sound persons low beyond e =
+    let first = not-amiss low fault.Staff 0 _ e in
+    (first .0, not-amiss beyond fault.Holdings _ Nothing (first .1) .0)
 
-sound-row : {low beyond : Bool} → low ≡ false → beyond ≡ false → rowLook low beyond ≡ Sound
-sound-row l b = rw (l, b)
+sound-row : (persons : Bool) {low beyond : Bool} → low ≡ false → beyond ≡ false → rowAmiss persons low beyond ≡ Nothing
+sound-row persons l b = rw (l, b)
 
-row-there : (persons : Bool) (listed : ℕ) (before : Option Row) (x : Row) (l : List Row) → rows persons .faults listed before x ≡ Sound
+row-there : (persons : Bool) (listed : ℕ) (before : Option Row) (x : Row) (l : List Row) → rows persons .faults listed before x ≡ Nothing
     → After (λ row. row .staff) before (x ∷ l) × (x .holdings < 2 ^ listed)
 unfolding Below
-row-there persons listed none x l e = (tt, leb-false (2 ^ listed) (x .holdings) (row-sound false (pastListed listed (x .holdings)) e .1))
+row-there persons listed none x l e = (tt, leb-false (2 ^ listed) (x .holdings) (row-sound persons false (pastListed listed (x .holdings)) e .1))
 row-there persons listed (some y) x l e =
-    let s = row-sound (leb (x .staff) (y .staff)) (pastListed listed (x .holdings)) e in
+    let s = row-sound persons (leb (x .staff) (y .staff)) (pastListed listed (x .holdings)) e in
     (leb-false (x .staff) (y .staff) (s .0), leb-false (2 ^ listed) (x .holdings) (s .1))
 
 row-back : (persons : Bool) (listed : ℕ) (before : Option Row) (x : Row) (l : List Row)
-    → After (λ row. row .staff) before (x ∷ l) → x .holdings < 2 ^ listed → rows persons .faults listed before x ≡ Sound
+    → After (λ row. row .staff) before (x ∷ l) → x .holdings < 2 ^ listed → rows persons .faults listed before x ≡ Nothing
 unfolding Below
-row-back persons listed none x l a m = sound-row refl (lt-leb (2 ^ listed) (x .holdings) m)
-row-back persons listed (some y) x l a m = sound-row (lt-leb (x .staff) (y .staff) a) (lt-leb (2 ^ listed) (x .holdings) m)
+row-back persons listed none x l a m = sound-row persons refl (lt-leb (2 ^ listed) (x .holdings) m)
+row-back persons listed (some y) x l a m = sound-row persons (lt-leb (x .staff) (y .staff) a) (lt-leb (2 ^ listed) (x .holdings) m)
 
 -- codes have no fault exactly if they ascend
 pub codes-sound : (listed : ℕ) (l : List ℕ) → Faultless codes codeFields code-codec listed none l → Ascends (λ c. c) l
@@ -138,18 +137,18 @@ sound-rows persons listed l a m =
 -- ---- policies
 
 -- what is made is a policy exactly if nothing is refused
-admitted : (r : Ruling) (p : Policy) → byMade (madeBy r p) ≡ Sound → r ≡ ruling.Admitted
+admitted : (r : Ruling) (p : Policy) → byMade (madeBy r p) ≡ Nothing → r ≡ ruling.Admitted
 admitted ruling.Admitted p e = refl
 admitted (ruling.Refused refusal) p e = cc
 
-policy-there : (listed : ℕ) (before : Option Policy) (p : Policy) → policies .faults listed before p ≡ Sound → PolicyFits listed p
+policy-there : (listed : ℕ) (before : Option Policy) (p : Policy) → policies .faults listed before p ≡ Nothing → PolicyFits listed p
 policy-there listed before p e =
-    let first = not-faulty _ _ _ e in
+    let first = not-amiss _ _ _ _ e in
     record { task = leb-false (2 ^ listed) (p .task) (first .0); sound = admitted (ownRuling p) p (first .1) }
 
-policy-back : (listed : ℕ) (before : Option Policy) (p : Policy) → PolicyFits listed p → policies .faults listed before p ≡ Sound
+policy-back : (listed : ℕ) (before : Option Policy) (p : Policy) → PolicyFits listed p → policies .faults listed before p ≡ Nothing
 policy-back listed before p f =
-    no-fault (pastListed listed (p .task)) fault.Task _ (lt-leb (2 ^ listed) (p .task) (f .task))
+    none-amiss (pastListed listed (p .task)) fault.Task 0 _ (lt-leb (2 ^ listed) (p .task) (f .task))
     (ap (λ (r : Ruling). byMade (madeBy r p)) (f .sound))
 
 pub policies-sound : (listed : ℕ) (before : Option Policy) (l : List Policy) → Faultless policies policyFields policy-codec listed before l → Each (PolicyFits listed) l

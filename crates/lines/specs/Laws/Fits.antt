@@ -1,5 +1,5 @@
 -- No sheet is longer than `longest`: at most 32 lines, each of at most 726 bytes, since a line names each person at most once. Assumes nothing.
-use mathlib.Core.Path.{_≡_, refl, sym, ap, subst}
+use mathlib.Core.Path.{_≡_, refl, sym, ap, subst, _∙_}
 use mathlib.Core.Logic.{⊎-elim}
 use mathlib.Core.List.{List, [], _∷_, _++_, map}
 use mathlib.Core.Bool.{Bool, true, false}
@@ -9,7 +9,7 @@ use native.Mathlib.Omega.{arith}
 use native.Mathlib.Decide.{decLt}
 use lib.Count.{ones}
 use lib.Dec.{ltb}
-use lib.ListN.{length, getD, take, length-append}
+use lib.ListN.{length, getD, take, length-append, length-take}
 use lib.Pow.{pow-mono}
 use lib.Seq.{getD-take}
 use Rattle.sets.specs.Sets.{bit, bit-le, bit-none, ones-bound, ones-pos, bit-below}
@@ -40,25 +40,21 @@ use Rattle.accounts.specs.Persons.{where?, numberOf as Persons·numberOf, perso
 use Rattle.accounts.specs.Refusals.{accountsRuling}
 use Rattle.accounts.specs.Laws.Merged.{at-numbers}
 use Rattle.questions.specs.Replied.{behind, policyAnswerOf}
-use Rattle.book.specs.Layout.{Each, hasPersons}
+use Rattle.book.specs.Layout.{hasPersons}
 use Rattle.book.specs.Faults.{faultNumber}
-use Rattle.book.specs.Promises.{Bytes, FirstFault}
-use Rattle.book.specs.Reading.{fieldsAt, Kind, codes, rows, rowsOf, policies, width, entryAt, entryLook, Found, inTurn, countAt, sectionLooks, past, formOf, front, listedIn, endLook, looksFromPolicies, looksFromRows, looks, startsOf}
+use Rattle.book.specs.Promises.{Bytes}
+use Rattle.book.specs.Reading.{fieldsAt, rows, policies, width, entryAt, past, formOf, startsOf, readOf}
 use Rattle.book.specs.Parts.{startsIn, placeOf, rowPlace, rowFrom, rowByNumber, rowOr0, accountsIn, contentsOf, policyCount, listedBy, policyFrom, policyAt}
 use Rattle.book.specs.Laws.Codec.{number-fits}
-use Rattle.book.specs.Laws.Books.{rowsAt, policiesAt, reply, good-layout}
+use Rattle.book.specs.Laws.Books.{reply, good-layout}
 use Rattle.book.specs.Laws.Books as books
 use Rattle.book.specs.Laws.Parts.{layout-parts}
-use Rattle.book.specs.Laws.Prefix.{near-front}
-use Rattle.book.specs.declared.Form.{Form}
-use Rattle.book.specs.declared.Form.the-variants.{Old, Persons}
+use Rattle.book.specs.Laws.Prefix.{prefix-reply}
+use Rattle.book.specs.Laws.Refused.{refused-place}
 use Rattle.book.specs.declared.Fault.{Fault}
 use Rattle.book.specs.declared.Fault.the-variants.{Short, Permissions, Code, Rows, Staff, Holdings, Policies, Task, Policy as PolicyFault, Excess}
-use Rattle.book.specs.declared.Look.{Look}
-use Rattle.book.specs.declared.Look.the-variants.{Faulty}
-use Rattle.book.specs.declared.Before.{Before}
-use Rattle.book.specs.declared.Before.the-variants.{Nothing, Entry}
 use Rattle.book.specs.declared.Reading.{Reading}
+use Rattle.book.specs.declared.Reading.the-variants as read
 use Rattle.book.specs.declared.Place.{Place}
 use Rattle.book.specs.declared.Place.the-variants as place
 use Rattle.text.specs.Text.{decimal, marked, joined}
@@ -262,52 +258,11 @@ module _ (book : List ℕ) (bytes : Bytes book) where
         lines-fit n (suc index) (omega arith),
       )
 
-  -- ---- the line of a refused book: a place is told by three counts of a byte each
+  -- ---- the line of a refused book: its first 1,061 bytes decide, and its place is none past them
 
-  abbrev Early : List Found → Type 0
-  Early = Each (λ x. x .place < 10000)
-
-  early-append : (l m : List Found) → Early l → Early m → Early (l ++ m)
-  unfolding Each
-  early-append [] m a b = b
-  early-append (x ∷ l) m a b = (a .0, early-append l m (a .1) b)
-
-  in-turn-early : (look : Before → ℕ → Look) (wide n : ℕ) (before : Before) (at : ℕ) → at + wide * n < 10000 → Early (inTurn look wide before at n)
-  unfolding Each inTurn
-  in-turn-early look wide zero before at h = tt
-  in-turn-early look wide (suc n) before at h = (omega arith, in-turn-early look wide n (Entry at) (at + wide) (omega arith))
-
-  section-early : {A : Type 0} (kind : Kind A) (listed at : ℕ) → past kind book at < 10000 → Early (sectionLooks kind book listed at)
-  unfolding Each sectionLooks past
-  section-early kind listed at h =
-      (omega arith, in-turn-early (entryLook kind book listed) (width kind) (countAt book at) Nothing (at + 1) (omega arith))
-
-  rows-near : (form : Form) (c : ℕ) → c < 256 → width (rowsOf form) * c ≤ 3060
-  rows-near Old c h = omega arith
-  rows-near Persons c h = omega arith
-
-  looks-early : Early (looks book)
-  unfolding Each past
-  looks-early =
-      let form = formOf book in
-      let n = listedIn form book in
-      let a = rowsAt form book in
-      let b = policiesAt form book in
-      let one : a ≤ 512 = omega (arith, bytes (front form), near-front form) in
-      let two : b ≤ 3573 = omega (arith, rows-near form (countAt book a) (bytes a)) in
-      let three : past policies book b < 10000 = omega (arith, bytes b) in
-      early-append (sectionLooks codes book 0 (front form)) (looksFromRows form book a) (section-early codes 0 (front form) (omega arith))
-      (early-append (sectionLooks (rowsOf form) book n a) (looksFromPolicies form book b) (section-early (rowsOf form) n a (omega arith))
-      (early-append (sectionLooks policies book n b) (endLook book (past policies book b) ∷ []) (section-early policies n b three)
-      (three, tt)))
-
-  early-in : (l m : List Found) (x : Found) → Early (l ++ (x ∷ m)) → x .place < 10000
-  unfolding Each
-  early-in [] m x h = h .0
-  early-in (y ∷ l) m x h = early-in l m x (h .1)
-
-  place-early : (f : Fault) (at : ℕ) → FirstFault book f at → at < 10000
-  place-early f at h = early-in (h .before) (h .after) (record { place = at; look = Faulty f }) (subst Early (h .order) looks-early)
+  place-early : (f : Fault) (at : ℕ) → readOf book ≡ read.Refused f at → at < 10000
+  place-early f at e =
+      omega (arith, refused-place (take 1061 book) f at (sym (prefix-reply book) ∙ e), length-take 1061 book)
 
   refusal-few : (r : Refusal) → numberOf r < 100
   refusal-few refusal.Rows = omega arith
@@ -347,4 +302,4 @@ sheet-fits book bytes = ⊎-elim good refused (reply book)
 
     refused : books.Refused book → length (sheetOf book) ≤ longest
     refused r =
-        omega (arith, bad-fits book bytes (r .fault) (r .place) (place-early book bytes (r .fault) (r .place) (r .first)), ap (λ (q : Reading). length (sheetBy book q)) (r .reply))
+        omega (arith, bad-fits book bytes (r .fault) (r .place) (place-early book bytes (r .fault) (r .place) (r .reply)), ap (λ (q : Reading). length (sheetBy book q)) (r .reply))

@@ -10,15 +10,16 @@ use Rattle.roster.specs.Limits.{rowLimit}
 use Rattle.roster.specs.declared.Policy.{Policy}
 use Rattle.book.specs.Layout.{permissionLimit, policyLimit}
 use Rattle.book.specs.Reading.{Kind, notAbove, codes, rowsOf, policies}
-use Rattle.book.specs.Steps.{countLookIn}
+use Rattle.book.specs.Inner.Steps.{countAmissIn}
 use Rattle.book.specs.declared.Fault.{Fault}
-use Rattle.book.specs.declared.Look.{Look}
-use Rattle.book.specs.declared.Look.the-variants.{Sound, Faulty}
+use Rattle.book.specs.declared.Amiss.{Amiss}
 use Rattle.book.specs.declared.Row.{Row}
 use Rattle.book.specs.declared.Section.{Section}
 use Rattle.book.specs.declared.Section.the-variants.{Permissions, Rows, Policies}
 use Rattle.values.specs.Values.{nobody, unasked}
 use Rattle.values.specs.Writing.{firstOf}
+use Rattle.values.specs.declared.First.{First}
+use Rattle.values.specs.declared.First.the-variants as first
 use Rattle.values.specs.declared.Values.{Values}
 
 -- how many entries of a section there is room for, and how many are meant
@@ -62,25 +63,25 @@ abbrev pub staysAt : Values → Section → ℕ → Bool
 staysAt v section i = notAbove (priorTo (leadOf v section) i) (leadOf v section i)
 
 -- what is amiss with an entry of a kind, beside the one before it
-abbrev pub lookWith : {A : Type 0} → Kind A → ℕ → (ℕ → A) → ℕ → Look
+abbrev pub lookWith : {A : Type 0} → Kind A → ℕ → (ℕ → A) → ℕ → Amiss
 lookWith kind listed f i = kind .faults listed (priorTo f i) (f i)
 
-abbrev pub lookAt : Values → Section → ℕ → Look
+abbrev pub lookAt : Values → Section → ℕ → Amiss
 lookAt v Permissions = lookWith codes 0 (codeIn v)
 lookAt v Rows = lookWith (rowsOf (v .form)) (v .«code_count») (rowIn v)
 lookAt v Policies = lookWith policies (v .«code_count») (policyIn v)
 
 -- all looks at a section: at its count, then at its entries
-abbrev pub entryLooks : Values → Section → List Look
+abbrev pub entryLooks : Values → Section → List Amiss
 entryLooks v section = tabulate (countOf v section) (lookAt v section)
 
-abbrev pub sectionLooks : Values → Section → List Look
-sectionLooks v section = countLookIn section (countOf v section) ∷ entryLooks v section
+abbrev pub sectionLooks : Values → Section → List Amiss
+sectionLooks v section = countAmissIn section (countOf v section) ∷ entryLooks v section
 
 -- what is told of a fault that is there or not
-abbrev pub told : Option Fault → Look
-told none = Sound
-told (some f) = Faulty f
+abbrev pub told : Option Fault → First
+told none = first.Nothing
+told (some f) = first.Fault f
 
-abbrev pub firstLook : List Look → Look
+abbrev pub firstLook : List Amiss → First
 firstLook l = told (firstOf l)

@@ -14,13 +14,14 @@ use Rattle.roster.specs.Laws.Rulings.{inside, policy-within}
 use Rattle.roster.specs.declared.Policy.{Policy}
 use Rattle.book.specs.Layout.{Contents, permissionLimit, codeFields, rowFields, policyFields, hasPersons, bytesOf, PolicyFits, Admitted}
 use Rattle.book.specs.Reading.{Kind, codes, rowsOf, policies}
-use Rattle.book.specs.Laws.First.{not-faulty}
+use Rattle.book.specs.Laws.First.{not-amiss}
 use Rattle.book.specs.Laws.Sections.{Codec, Faultless}
 use Rattle.book.specs.Laws.Values.{code-codec, row-codec, policy-codec, each, RowFits, each-row-fits, codes-sound, rows-sound, policies-sound}
 use Rattle.book.specs.Laws.Books.{layout-good}
 use Rattle.book.specs.declared.Row.{Row}
 use Rattle.values.specs.Writing.{valueLooks, sectionIn, firstOf, faultIn}
-use Rattle.values.specs.Promises.{Typed, Narrow, Laidable, faultOf}
+use Rattle.book.specs.Faults.{faultOf}
+use Rattle.values.specs.Promises.{Typed, Narrow, Laidable}
 use Rattle.values.specs.Laws.First.{first-append, neither, none-head, none-faultless}
 use Rattle.values.specs.Laws.Reader.{as-in-the-reader}
 
@@ -54,7 +55,7 @@ section-none : {A : Type 0} (kind : Kind A) (fields : A → List ℕ) (codec : C
     → firstOf (sectionIn kind listed l) ≡ none → (kind .outOfRange (length l) ≡ false) × Faultless kind fields codec listed none l
 section-none kind fields codec listed l e =
     let h = none-head _ (valueLooks kind listed none l) e in
-    (not-faulty _ _ _ (h .0) .0, none-faultless kind fields codec listed none l (h .1))
+    (not-amiss _ _ _ _ (h .0) .0, none-faultless kind fields codec listed none l (h .1))
 
 none-admitted : (v : Contents) → Typed v → faultIn v ≡ none → Admitted v
 none-admitted v t e =

@@ -9,11 +9,11 @@ use native.Mathlib.Omega.{arith}
 use lib.ListN.{length}
 use Rattle.book.specs.Layout.{Contents}
 use Rattle.book.specs.Faults.{faultNumber, EntryNumber}
-use Rattle.book.specs.Reading.{Kind, faultIf, codes, rowsOf, policies}
+use Rattle.book.specs.Reading.{Kind, amissIf, codes, rowsOf, policies}
 use Rattle.book.specs.Laws.Refused.{Told, told-if, told-code, told-row, told-policy}
 use Rattle.book.specs.declared.Fault.{Fault}
-use Rattle.book.specs.declared.Look.{Look}
-use Rattle.book.specs.declared.Look.the-variants.{Sound, Faulty}
+use Rattle.book.specs.declared.Amiss.{Amiss}
+use Rattle.book.specs.declared.Amiss.the-variants.{Nothing, Field}
 use Rattle.values.specs.Writing.{unwrittenNumber, valueLooks, sectionIn, firstOf, faultIn, Writes}
 use Rattle.values.specs.Promises.{WriterNumber}
 use Rattle.values.specs.Laws.First.{orElse, first-append}
@@ -32,13 +32,13 @@ told-or : (a b : Option Fault) → ToldIn a → ToldIn b → ToldIn (orElse a b)
 told-or none b s t = t
 told-or (some f) b s t = s
 
-told-append : (l m : List Look) → ToldIn (firstOf l) → ToldIn (firstOf m) → ToldIn (firstOf (l ++ m))
+told-append : (l m : List Amiss) → ToldIn (firstOf l) → ToldIn (firstOf m) → ToldIn (firstOf (l ++ m))
 told-append l m s t = subst ToldIn (sym (first-append l m)) (told-or (firstOf l) (firstOf m) s t)
 
-told-head : (x : Look) (l : List Look) → Told EntryNumber x → ToldIn (firstOf l) → ToldIn (firstOf (x ∷ l))
+told-head : (x : Amiss) (l : List Amiss) → Told EntryNumber x → ToldIn (firstOf l) → ToldIn (firstOf (x ∷ l))
 unfolding firstOf
-told-head Sound l s t = t
-told-head (Faulty f) l s t = s
+told-head Nothing l s t = t
+told-head (Field f k) l s t = s
 
 module _ {A : Type 0} (kind : Kind A) (count : EntryNumber (faultNumber (kind .countFault)))
     (entry : (listed : ℕ) (before : Option A) (x : A) → Told EntryNumber (kind .faults listed before x)) (listed : ℕ) where
@@ -50,8 +50,8 @@ module _ {A : Type 0} (kind : Kind A) (count : EntryNumber (faultNumber (kind .c
 
   section-told : (l : List A) → ToldIn (firstOf (sectionIn kind listed l))
   section-told l =
-      told-head (faultIf (kind .outOfRange (length l)) (kind .countFault) Sound) (valueLooks kind listed none l)
-      (told-if EntryNumber (kind .outOfRange (length l)) (kind .countFault) Sound count tt) (values-told none l)
+      told-head (amissIf (kind .outOfRange (length l)) (kind .countFault) 0 Nothing) (valueLooks kind listed none l)
+      (told-if EntryNumber (kind .outOfRange (length l)) (kind .countFault) 0 Nothing count tt) (values-told none l)
 
 -- a fault of values is told by one of 2 to 5 or of 12 to 18
 pub fault-number : (v : Contents) (f : Fault) → faultIn v ≡ some f → EntryNumber (faultNumber f)

@@ -1,8 +1,8 @@
 -- "Refusals: 12 to 18 and 2 to 5 as in the reader, in reading order": what is looked at of values is what the reader looks at of their layout, so
 -- the fault is the same. Assumes nothing.
 use mathlib.Core.Path.{_≡_, refl, sym, ap, _∙_}
-use mathlib.Core.Bool.{Bool, false}
-use mathlib.Core.Option.{none, some}
+use mathlib.Core.Bool.{Bool, true, false}
+use mathlib.Core.Option.{Option, none, some}
 use mathlib.Core.List.{List, [], _∷_, _++_, map, append-assoc, append-nil}
 use Prim.Native.Nat.{ℕ, _+_, _*_, _^_, _≤_, _<_}
 use native.Mathlib.Nat.{mul-suc}
@@ -12,13 +12,17 @@ use lib.Dec.{eqb}
 use borrow.Author.Tests.{le-ltb, lt-ltb, ne-eqb}
 use Rattle.roster.specs.declared.Policy.{Policy}
 use Rattle.book.specs.Layout.{Contents, Each, bytesOf, section, joined, codeWidths, codeFields, rowWidths, rowFields, policyWidths, policyFields, hasPersons, lead, permissionLimit}
-use Rattle.book.specs.Reading.{Kind, Found, faultIf, width, entryAt, prior, countLook, entryLook, inTurn, sectionLooks, past, formOf, front, listedIn, endLook, looks, looksBy, looksFromRows, looksFromPolicies, codes, rowsOf, policies, firstFault, startsOf, readOf}
+use Rattle.book.specs.Reading.{Kind, cutPlace, amissIf, faultIf, placed, width, entryAt, prior, countLook, entryLook, inTurn, sectionLooks, past, formOf, front, listedIn, endLook, looks, looksBy, looksFromRows, looksFromPolicies, codes, rowsOf, policies, firstFault, startsOf, readOf}
 use Rattle.book.specs.Laws.Codec.{Fit, after, head-at, tail-at, fields-length, fields-read}
 use Rattle.book.specs.Laws.Sections.{Codec, bytesFor, Fits, joined-length, section-read}
 use Rattle.book.specs.Laws.Values.{code-codec, row-codec, policy-codec, each, each-both, code-fits, row-fits}
 use Rattle.book.specs.Laws.Books.{rowsAt, policiesAt, by-lead, lead-front}
 use Rattle.book.specs.declared.Form.{Form}
+use Rattle.book.specs.Faults.{faultOf}
+use Rattle.book.specs.declared.Fault.{Fault}
 use Rattle.book.specs.declared.Fault.the-variants as fault
+use Rattle.book.specs.declared.Amiss.{Amiss}
+use Rattle.book.specs.declared.Amiss.the-variants as amiss
 use Rattle.book.specs.declared.Look.{Look}
 use Rattle.book.specs.declared.Look.the-variants.{Sound, Faulty}
 use Rattle.book.specs.declared.Before.{Before}
@@ -26,11 +30,26 @@ use Rattle.book.specs.declared.Before.the-variants.{Nothing, Entry}
 use Rattle.book.specs.declared.Reading.{Reading}
 use Rattle.book.specs.declared.Reading.the-variants as read
 use Rattle.values.specs.Writing.{valueLooks, sectionIn, looksIn, firstOf, faultIn}
-use Rattle.values.specs.Promises.{Narrow, Laidable, faultOf, TellsForm}
+use Rattle.values.specs.Laws.First.{orElse}
+use Rattle.values.specs.Promises.{Narrow, Laidable, TellsForm}
 
--- the looks without their places
-abbrev pub look : Found → Look
-look x = x .look
+-- the fault of a look, without its place, and of what is amiss, without its field
+abbrev seen : Look → Option Fault
+seen Sound = none
+seen (Faulty f at) = some f
+
+abbrev faultFrom : Amiss → Option Fault
+faultFrom amiss.Nothing = none
+faultFrom (amiss.Field f k) = some f
+
+-- it is the same once it is placed
+seen-placed : (ws : List ℕ) (at : ℕ) (x : Amiss) → seen (placed ws at x) ≡ faultFrom x
+seen-placed ws at amiss.Nothing = refl
+seen-placed ws at (amiss.Field f k) = refl
+
+seen-count : (b : Bool) (f : Fault) (at : ℕ) → seen (faultIf b f at Sound) ≡ faultFrom (amissIf b f 0 amiss.Nothing)
+seen-count true f at = refl
+seen-count false f at = refl
 
 -- ---- values that have a layout fit their fields
 
@@ -41,11 +60,22 @@ policy-goes p h = ((h .0, (omega (arith, h .1 .0), (omega (arith, h .1 .1), (ome
 -- ---- what is looked at
 
 module _ {A : Type 0} (kind : Kind A) (fields : A → List ℕ) (codec : Codec kind fields) (listed : ℕ) where
+  -- what is told of an entry that is whole
+  entry-seen : (book : List ℕ) (before : Before) (at : ℕ) → at + width kind ≤ length book
+      → seen (entryLook kind book listed before at) ≡ faultFrom (kind .faults listed (prior (entryAt kind book) before) (entryAt kind book at))
+  unfolding entryLook
+  entry-seen book before at h =
+      let here = kind .faults listed (prior (entryAt kind book) before) (entryAt kind book at) in
+      let cut = cutPlace (kind .widths) (length book) at in
+      ap (λ (b : Bool). seen (faultIf b fault.Short cut (placed (kind .widths) at here))) (le-ltb (length book) (at + width kind) h)
+      ∙ seen-placed (kind .widths) at here
+
   -- what is looked at of entries that stand in a book is what is looked at of their values
   entries-looks : (vs : List A) (book : List ℕ) (before : Before) (at : ℕ) (rest : List ℕ) → Each (Fits kind fields codec) vs
       → at ≤ length book → drop at book ≡ joined (bytesFor kind fields codec) vs ++ rest → at + width kind * length vs ≤ length book
-      → map look (inTurn (entryLook kind book listed) (width kind) before at (length vs)) ≡ valueLooks kind listed (prior (entryAt kind book) before) vs
-  unfolding joined Each inTurn entryLook valueLooks
+      → map seen (inTurn (entryLook kind book listed) (width kind) before at (length vs))
+      ≡ map faultFrom (valueLooks kind listed (prior (entryAt kind book) before) vs)
+  unfolding joined Each inTurn valueLooks
   entries-looks [] book before at rest f l e h = refl
   entries-looks (x ∷ vs) book before at rest f l e h =
       let e′ = e ∙ append-assoc (bytesFor kind fields codec x) (joined (bytesFor kind fields codec) vs) rest in
@@ -57,11 +87,11 @@ module _ {A : Type 0} (kind : Kind A) (fields : A → List ℕ) (codec : Codec k
       let more = mul-suc (width kind) (length vs) in
       let whole : at + width kind ≤ length book = omega arith in
       let ih = entries-looks vs book (Entry at) (at + width kind) rest (f .1) whole next (omega arith) in
-      rw (le-ltb (length book) (at + width kind) whole, ih, here)
+      rw (entry-seen book before at whole, ih, here)
 
   section-looks : (vs : List A) (book : List ℕ) (at : ℕ) (rest : List ℕ) → Each (Fits kind fields codec) vs
       → drop at book ≡ section (kind .widths) fields vs ++ rest → at + length (section (kind .widths) fields vs) ≤ length book
-      → map look (sectionLooks kind book listed at) ≡ sectionIn kind listed vs
+      → map seen (sectionLooks kind book listed at) ≡ map faultFrom (sectionIn kind listed vs)
   unfolding sectionLooks countLook
   section-looks vs book at rest f e h =
       let count = head-at book at (length vs) (joined (bytesFor kind fields codec) vs ++ rest) e in
@@ -69,7 +99,7 @@ module _ {A : Type 0} (kind : Kind A) (fields : A → List ℕ) (codec : Codec k
       let long = joined-length kind fields codec vs f in
       let whole : at + 1 ≤ length book = omega arith in
       let ih = entries-looks vs book Nothing (at + 1) rest f whole next (omega arith) in
-      rw (le-ltb (length book) (at + 1) whole, count, ih)
+      rw (le-ltb (length book) (at + 1) whole, count, ih, seen-count (kind .outOfRange (length vs)) (kind .countFault) at)
 
 map-append : {A B : Type 0} (f : A → B) (l m : List A) → map f (l ++ m) ≡ map f l ++ map f m
 map-append f [] m = refl
@@ -79,7 +109,7 @@ joins : {A : Type 0} {a b c d : List A} → a ≡ b → c ≡ d → a ++ c ≡ b
 joins e h = rw (e, h)
 
 -- all that is looked at of a layout, by its own form, is what is looked at of its values, and then its end
-by-form-looks : (v : Contents) → Laidable v → map look (looksBy (v .form) (bytesOf v)) ≡ looksIn v ++ (Sound ∷ [])
+by-form-looks : (v : Contents) → Laidable v → map seen (looksBy (v .form) (bytesOf v)) ≡ map faultFrom (looksIn v ++ (amiss.Nothing ∷ []))
 unfolding bytesOf
 by-form-looks v f =
     let book = bytesOf v in
@@ -109,33 +139,40 @@ by-form-looks v f =
     let look2 = section-looks (rowsOf form) (rowFields persons) (row-codec persons) listed (v .rows) book (rowsAt form book) sec3 rowsFit (one .left) (omega arith) in
     let look3 = section-looks policies policyFields policy-codec listed (v .policies) book (policiesAt form book) [] policiesFit (two .left ∙ sym (append-nil sec3)) (omega arith) in
     let end = le-ltb (past policies book (policiesAt form book)) (length book) (omega arith) in
-    map-append look (sectionLooks codes book 0 (front form)) (looksFromRows form book (rowsAt form book))
+    let in1 = sectionIn codes 0 (v .codes) in
+    let in2 = sectionIn (rowsOf form) (length (v .codes)) (v .rows) in
+    let in3 = sectionIn policies (length (v .codes)) (v .policies) in
+    let last = amiss.Nothing ∷ [] in
+    map-append seen (sectionLooks codes book 0 (front form)) (looksFromRows form book (rowsAt form book))
     ∙ joins look1 (
-    map-append look (sectionLooks (rowsOf form) book listed (rowsAt form book)) (looksFromPolicies form book (policiesAt form book))
-    ∙ joins (look2 ∙ ap (λ (n : ℕ). sectionIn (rowsOf form) n (v .rows)) (one .count)) (
-    map-append look (sectionLooks policies book listed (policiesAt form book)) (endLook book (past policies book (policiesAt form book)) ∷ [])
-    ∙ joins (look3 ∙ ap (λ (n : ℕ). sectionIn policies n (v .policies)) (one .count)) (ap (λ (b : Bool). faultIf b fault.Excess Sound ∷ []) end)))
-    ∙ sym (
-    append-assoc (sectionIn codes 0 (v .codes)) _ (Sound ∷ [])
-    ∙ ap (λ (l : List Look). sectionIn codes 0 (v .codes) ++ l) (append-assoc (sectionIn (rowsOf form) (length (v .codes)) (v .rows)) (sectionIn policies (length (v .codes)) (v .policies)) (Sound ∷ [])))
+    map-append seen (sectionLooks (rowsOf form) book listed (rowsAt form book)) (looksFromPolicies form book (policiesAt form book))
+    ∙ joins (look2 ∙ ap (λ (n : ℕ). map faultFrom (sectionIn (rowsOf form) n (v .rows))) (one .count)) (
+    map-append seen (sectionLooks policies book listed (policiesAt form book)) (endLook book (past policies book (policiesAt form book)) ∷ [])
+    ∙ joins (look3 ∙ ap (λ (n : ℕ). map faultFrom (sectionIn policies n (v .policies))) (one .count))
+    (ap (λ (b : Bool). seen (faultIf b fault.Excess (past policies book (policiesAt form book)) Sound) ∷ []) end)))
+    ∙ sym (map-append faultFrom in1 (in2 ++ (in3 ++ last))
+    ∙ ap (λ (l : List (Option Fault)). map faultFrom in1 ++ l) (map-append faultFrom in2 (in3 ++ last)
+    ∙ ap (λ (l : List (Option Fault)). map faultFrom in2 ++ l) (map-append faultFrom in3 last)))
+    ∙ sym (ap (map faultFrom) (append-assoc in1 (in2 ++ in3) last ∙ ap (λ (l : List Amiss). in1 ++ l) (append-assoc in2 in3 last)))
 
 -- ---- the first fault
 
-first-none : (l : List Look) → firstOf (l ++ (Sound ∷ [])) ≡ firstOf l
-unfolding firstOf
-first-none [] = refl
-first-none (Sound ∷ l) = first-none l
-first-none (Faulty f ∷ l) = refl
+-- the first that is there
+unfoldable firstSome : List (Option Fault) → Option Fault
+firstSome [] = none
+firstSome (x ∷ l) = orElse x (firstSome l)
 
-fault-by : (good : Reading) → faultOf good ≡ none → (l : List Found) → faultOf (firstFault read.Refused good l) ≡ firstOf (map look l)
-unfolding firstFault firstOf
+first-amiss : (l : List Amiss) → firstSome (map faultFrom (l ++ (amiss.Nothing ∷ []))) ≡ firstOf l
+unfolding firstOf firstSome
+first-amiss [] = refl
+first-amiss (amiss.Nothing ∷ l) = first-amiss l
+first-amiss (amiss.Field f k ∷ l) = refl
+
+fault-by : (good : Reading) → faultOf good ≡ none → (l : List Look) → faultOf (firstFault read.Refused good l) ≡ firstSome (map seen l)
+unfolding firstFault firstSome
 fault-by good g [] = g
-fault-by good g (x ∷ l) = go (x .look) (fault-by good g l)
-  where
-    go : (k : Look) → faultOf (firstFault read.Refused good l) ≡ firstOf (map look l)
-        → faultOf (elim k [ Sound ↦ firstFault read.Refused good l | Faulty f ↦ read.Refused f (x .place) ]) ≡ elim k [ Sound ↦ firstOf (map look l) | Faulty f ↦ some f ]
-    go Sound ih = ih
-    go (Faulty f) ih = refl
+fault-by good g (Sound ∷ l) = fault-by good g l
+fault-by good g (Faulty f at ∷ l) = refl
 
 -- ---- the form
 
@@ -155,6 +192,6 @@ unfolding readOf
 as-in-the-reader v f n =
     let book = bytesOf v in
     fault-by (read.Good (startsOf (formOf book) book)) refl (looks book)
-    ∙ ap (λ (form : Form). firstOf (map look (looksBy form book))) (form-told v n)
-    ∙ ap firstOf (by-form-looks v f)
-    ∙ first-none (looksIn v)
+    ∙ ap (λ (form : Form). firstSome (map seen (looksBy form book))) (form-told v n)
+    ∙ ap firstSome (by-form-looks v f)
+    ∙ first-amiss (looksIn v)

@@ -17,11 +17,11 @@ use Rattle.roster.specs.declared.Ruling.{Ruling}
 use Rattle.roster.specs.declared.Ruling.the-variants as ruling
 use Rattle.book.specs.Layout.{Contents}
 use Rattle.book.specs.Faults.{faultNumber}
-use Rattle.book.specs.Reading.{faultIf, pastListed, byMade, codes, rowsOf, policies}
+use Rattle.book.specs.Reading.{amissIf, pastListed, byMade, codes, rowsOf, policies}
 use Rattle.book.specs.declared.Fault.{Fault}
 use Rattle.book.specs.declared.Fault.the-variants as fault
-use Rattle.book.specs.declared.Look.{Look}
-use Rattle.book.specs.declared.Look.the-variants.{Sound, Faulty}
+use Rattle.book.specs.declared.Amiss.{Amiss}
+use Rattle.book.specs.declared.Amiss.the-variants.{Nothing, Field}
 use Rattle.values.specs.Writing.{valueLooks, sectionIn, firstOf, faultIn}
 use Rattle.values.specs.Promises.{Wide, looksTo}
 use Rattle.values.specs.Laws.First.{orElse}
@@ -30,18 +30,18 @@ use Rattle.values.specs.Laws.Policies.{MayRule, own-ruling, wide-not-adm
 -- ---- the look at such a policy
 
 -- what is looked at of P, and then of s, d and t
-abbrev taskLook : Bool → Bool → Look
-taskLook past zeroTask = faultIf past fault.Task (faultIf zeroTask (fault.Policy refusal.Task) Sound)
+abbrev taskLook : Bool → Bool → Amiss
+taskLook past zeroTask = amissIf past fault.Task 0 (amissIf zeroTask (fault.Policy refusal.Task) 0 Nothing)
 
 -- a fault of s, d or t
-record Narrowed (l m : List Look) : Type 0 where
+record Narrowed (l m : List Amiss) : Type 0 where
   fault : Fault
   number : (3 ≤ faultNumber fault) × (faultNumber fault ≤ 5)
   told : firstOf l ≡ orElse (firstOf m) (some fault)
 
 -- P tells its fault, and else s, d or t do
-told-of : (past zeroTask : Bool) (r : Ruling) (p : Policy) (more : List Look) → MayRule zeroTask r → (r ≡ ruling.Admitted → ⊥)
-    → Narrowed (faultIf past fault.Task (byMade (madeBy r p)) ∷ more) (taskLook past zeroTask ∷ [])
+told-of : (past zeroTask : Bool) (r : Ruling) (p : Policy) (more : List Amiss) → MayRule zeroTask r → (r ≡ ruling.Admitted → ⊥)
+    → Narrowed (amissIf past fault.Task 0 (byMade (madeBy r p)) ∷ more) (taskLook past zeroTask ∷ [])
 unfolding firstOf
 told-of past zeroTask ruling.Admitted p more m n = absurd (n refl)
 told-of true zeroTask (ruling.Refused x) p more m n = record { fault = fault.Policy refusal.Away; number = (omega arith, omega arith); told = refl }
@@ -52,11 +52,11 @@ told-of false false (ruling.Refused x) p more m n = record { fault = fault.Polic
 -- ---- behind all that comes before it
 
 -- the same behind the same
-behind : (l m : List Look) (o : Option Fault) (k : List Look) → firstOf l ≡ orElse (firstOf m) o → firstOf (k ++ l) ≡ orElse (firstOf (k ++ m)) o
+behind : (l m : List Amiss) (o : Option Fault) (k : List Amiss) → firstOf l ≡ orElse (firstOf m) o → firstOf (k ++ l) ≡ orElse (firstOf (k ++ m)) o
 unfolding firstOf
 behind l m o [] e = e
-behind l m o (Sound ∷ k) e = behind l m o k e
-behind l m o (Faulty f ∷ k) e = refl
+behind l m o (Nothing ∷ k) e = behind l m o k e
+behind l m o (Field f n ∷ k) e = refl
 
 -- the looks at policies, parted before one of them: none looks at the one before
 parted : (listed : ℕ) (prior : Option Policy) (before after : List Policy) (p : Policy)
@@ -64,7 +64,7 @@ parted : (listed : ℕ) (prior : Option Policy) (before after : List Policy) (p 
     ≡ valueLooks policies listed prior before ++ (policies .faults listed none p ∷ valueLooks policies listed (some p) after)
 unfolding valueLooks
 parted listed prior [] after p = refl
-parted listed prior (q ∷ before) after p = ap (λ (l : List Look). policies .faults listed prior q ∷ l) (parted listed (some q) before after p)
+parted listed prior (q ∷ before) after p = ap (λ (l : List Amiss). policies .faults listed prior q ∷ l) (parted listed (some q) before after p)
 
 -- the fault that is told, and which it is
 pub record WideRefused (v : Contents) (before : List Policy) (p : Policy) : Type 0 where
@@ -77,7 +77,7 @@ wide-refused v before after p e wide =
     let listed = length (v .codes) in
     let more = valueLooks policies listed (some p) after in
     let own = told-of (pastListed listed (p .task)) (eqb (p .task) 0) (ownRuling p) p more (own-ruling p) (wide-not-admitted p wide) in
-    let count = faultIf (policies .outOfRange (length (v .policies))) (policies .countFault) Sound in
+    let count = amissIf (policies .outOfRange (length (v .policies))) (policies .countFault) 0 Nothing in
     let one = sectionIn codes 0 (v .codes) in
     let two = sectionIn (rowsOf (v .form)) listed (v .rows) in
     let last = some (own .fault) in
@@ -88,7 +88,7 @@ wide-refused v before after p e wide =
     behind _ _ last one (behind _ _ last two (behind _ _ last (count ∷ []) (behind mine task last earlier (own .told)))) in
     let same : valueLooks policies listed none (v .policies) ≡ earlier ++ mine =
     ap (valueLooks policies listed none) e ∙ parted listed none before after p in
-    go (own .fault) (own .number) (firstOf (looksTo v before p)) refl (ap (λ (l : List Look). firstOf (one ++ (two ++ (count ∷ l)))) same ∙ there)
+    go (own .fault) (own .number) (firstOf (looksTo v before p)) refl (ap (λ (l : List Amiss). firstOf (one ++ (two ++ (count ∷ l)))) same ∙ there)
   where
     go : (f : Fault) → (3 ≤ faultNumber f) × (faultNumber f ≤ 5) → (o : Option Fault) → firstOf (looksTo v before p) ≡ o
         → faultIn v ≡ orElse (firstOf (looksTo v before p)) (some f) → WideRefused v before p

@@ -4,7 +4,7 @@ use mathlib.Core.Path.{_≡_, refl, sym, ap, _∙_}
 use mathlib.Core.List.{List}
 use Prim.Native.Nat.{ℕ, _-_}
 use native.Mathlib.Omega.{arith}
-use Rattle.book.specs.Steps.{lookIn, widthIn, stepFrom, startAt, pastEntry}
+use Rattle.book.specs.Inner.Steps.{lookIn, widthIn, stepFrom, startAt, pastEntry}
 use Rattle.book.specs.declared.Form.{Form}
 use Rattle.book.specs.declared.Section.{Section}
 use Rattle.book.specs.declared.Cursor.{Cursor}
@@ -42,7 +42,7 @@ returns c =
     let a = l .before .before .before .args in
     let look = c .before .before .before .look-entry in
     sym (l .loop .inv .1
-    ∙ step-faulty (lookIn (a .form) (a .section) (a .book .now) (a .listed)) (widthIn (a .form) (a .section)) (l .loop .cursor) (l .loop .left) _
+    ∙ step-faulty (lookIn (a .form) (a .section) (a .book .now) (a .listed)) (widthIn (a .form) (a .section)) (l .loop .cursor) (l .loop .left) _ _
     (c .before .before .before .before .loop-test .taken) (sym (look .ensures) ∙ c .before .fault .given .1))
 
 enum-told : tie.Need-enum-told Inv-loop μ-loop

@@ -1,7 +1,7 @@
 -- The section says how wide the number is. Assumes nothing.
 use mathlib.Core.Path.{sym, ap, _∙_}
 use borrow.Author.Needs.{needs}
-use Rattle.book.specs.Steps.{leadIn}
+use Rattle.book.specs.Inner.Steps.{leadIn}
 use Rattle.book.specs.declared.Section.{Section}
 use Rattle.book.proofs.sections.lead.Statement.{statement}
 use Rattle.book.proofs.sections.lead.Tie as tie

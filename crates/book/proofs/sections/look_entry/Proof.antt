@@ -2,7 +2,7 @@
 use borrow.Author.Needs.{needs}
 use mathlib.Core.Path.{sym, ap, _∙_}
 use Rattle.book.specs.Reading.{entryLook}
-use Rattle.book.specs.Steps.{lookIn}
+use Rattle.book.specs.Inner.Steps.{lookIn}
 use Rattle.book.specs.declared.Section.{Section}
 use Rattle.book.proofs.sections.look_entry.Statement.{statement}
 use Rattle.book.proofs.sections.look_entry.Tie as tie

@@ -7,7 +7,7 @@ use native.Mathlib.Nat.{add-assoc}
 use lib.ListN.{getD}
 use Rattle.roster.specs.Refusals.{madeOf}
 use Rattle.book.specs.Reading.{number, fieldsAt}
-use Rattle.book.specs.Steps.{madeAt}
+use Rattle.book.specs.Inner.Steps.{madeAt}
 use Rattle.book.proofs.Numbers.{number-1}
 use Rattle.book.proofs.sections.policy_from.Statement.{statement}
 use Rattle.book.proofs.sections.policy_from.Tie as tie

@@ -3,7 +3,7 @@ use borrow.Author.Needs.{needs}
 use mathlib.Core.Path.{sym, ap, _∙_}
 use Prim.Native.Nat.{_+_}
 use native.Mathlib.Omega.{arith}
-use Rattle.book.specs.Steps.{lookIn, widthIn, stepFrom, startAt}
+use Rattle.book.specs.Inner.Steps.{lookIn, widthIn, stepFrom, startAt}
 use Rattle.book.proofs.Looks.{whole-count, section-faulty, section-sound}
 use Rattle.book.proofs.sections.section_step.Statement.{statement}
 use Rattle.book.proofs.sections.section_step.Tie as tie
@@ -34,7 +34,7 @@ returns : tie.Need-returns
 returns c =
     let l = c .before .before .before in
     let a = l .before .before .args in
-    sym (section-faulty (a .form) (a .section) (a .book .now) (a .listed) (a .at) _ (sym (l .look-count .ensures) ∙ c .before .fault .given .1))
+    sym (section-faulty (a .form) (a .section) (a .book .now) (a .listed) (a .at) _ _ (sym (l .look-count .ensures) ∙ c .before .fault .given .1))
 
 returns-2 : tie.Need-returns-2
 returns-2 c =

@@ -3,8 +3,8 @@ use borrow.Author.Needs.{needs}
 use mathlib.Core.Path.{_≡_, sym, ap, _∙_}
 use Prim.Native.Nat.{_≤_}
 use native.Mathlib.Omega.{arith}
-use Rattle.book.specs.Steps.{countLookIn}
-use Rattle.book.specs.declared.Look.the-variants.{Sound}
+use Rattle.book.specs.Inner.Steps.{countAmissIn}
+use Rattle.book.specs.declared.Amiss.the-variants.{Nothing}
 use Rattle.values.specs.Inner.Looks.{limitIn, countOf, entryLooks, told}
 use Rattle.values.proofs.Looks.{first-faulty, first-sound, count-told, count-within}
 use Rattle.values.proofs.look.look_section.Statement.{statement}
@@ -13,8 +13,8 @@ use Rattle.values.proofs.look.look_section.Tie as tie
 count-of-requires : tie.Need-count-of-requires
 count-of-requires c κs = search needs
 
-count-look-requires : tie.Need-count-look-requires
-count-look-requires c κs = search needs
+count-amiss-requires : tie.Need-count-amiss-requires
+count-amiss-requires c κs = search needs
 
 enum-known-fault : tie.Need-enum-known-fault
 enum-known-fault c = search needs
@@ -22,12 +22,12 @@ enum-known-fault c = search needs
 enum-told : tie.Need-enum-told
 enum-told c = search needs
 
--- a count that is told to be sound is
+-- nothing is amiss with a count of which this is told
 sound : (c : tie.After-enum-told)
-    → let a = c .before .before .before .before .args in countLookIn (a .section) (countOf (a .values) (a .section)) ≡ Sound
+    → let a = c .before .before .before .before .args in countAmissIn (a .section) (countOf (a .values) (a .section)) ≡ Nothing
 sound c =
     let n = c .before .before .before in
-    count-told (n .before .args .section) _ (c .before .before .count-look .ensures) (n .count-of .ensures) (c .enum-told .given .1)
+    count-told (n .before .args .section) _ (c .before .before .count-amiss .ensures) (n .count-of .ensures) (c .enum-told .given .1)
 
 look-values-requires : tie.Need-look-values-requires
 look-values-requires c κs =
@@ -42,7 +42,7 @@ returns c =
     let n = l .before in
     let a = n .before .args in
     sym (ap told (first-faulty (entryLooks (a .values) (a .section))
-    (count-told (a .section) _ (l .count-look .ensures) (n .count-of .ensures) (c .before .fault .given .1))))
+    (count-told (a .section) _ (l .count-amiss .ensures) (n .count-of .ensures) (c .before .fault .given .1))))
 
 returns-2 : tie.Need-returns-2
 returns-2 c =
@@ -54,7 +54,7 @@ look-section-spec =
     tie.close
     (tie.spec
     count-of-requires
-    count-look-requires
+    count-amiss-requires
     enum-known-fault
     enum-told
     look-values-requires

@@ -3,14 +3,14 @@ use borrow.Author.Needs.{needs}
 use mathlib.Core.Path.{_≡_, sym, ap, _∙_}
 use Prim.Native.Nat.{ℕ, _-_, _≤_, _<_}
 use native.Mathlib.Omega.{arith}
-use Rattle.book.specs.declared.Look.the-variants.{Sound}
+use Rattle.book.specs.declared.Amiss.the-variants.{Nothing}
 use Rattle.values.specs.Inner.Looks.{countOf, lookAt, told}
 use Rattle.values.proofs.Looks.{first-at, first-none, one-more}
 use Rattle.values.proofs.look.look_values.Statement.{statement}
 use Rattle.values.proofs.look.look_values.Tie as tie
 
 abbrev Inv-loop : tie.InvT-loop
-Inv-loop values section count i₀ i = (i ≤ count) × ((j : ℕ) → j < i → lookAt values section j ≡ Sound)
+Inv-loop values section count i₀ i = (i ≤ count) × ((j : ℕ) → j < i → lookAt values section j ≡ Nothing)
 
 abbrev μ-loop : tie.MeasureT-loop
 μ-loop values section count i₀ i = count - i
@@ -29,7 +29,7 @@ returns c =
     let t = c .before .before .before .before in
     let l = t .before in
     let s = l .before in
-    sym (ap told (first-at (countOf (s .args .values) (s .args .section)) (lookAt (s .args .values) (s .args .section)) (l .loop .i) _
+    sym (ap told (first-at (countOf (s .args .values) (s .args .section)) (lookAt (s .args .values) (s .args .section)) (l .loop .i) _ _
     (omega (arith, s .pre .0, t .loop-test .taken)) (l .loop .inv .1)
     (sym (c .before .before .before .look-value .ensures) ∙ c .before .fault .given .1)))
 
