@@ -33,17 +33,21 @@ build() { # NAME
     : >"$built"
 }
 
-# Makes the book standard input: the one that is named, or what stands there already, in a copy, `book`, that can be read again. The copy has more
-# bytes than any book, so that what is said of them is said of all; one that goes on without an end is answered too. Status 1: no place for a copy.
-limit=4096
-open_book() { # [BOOK]
+# Makes the book standard input: the one that is named, or what stands there already. A closed stream is told here: what is opened later could take
+# its place.
+take_book() { # [BOOK]
     if [ $# -eq 1 ]; then
         [ -r "$1" ] || die "cannot read $1"
         exec <"$1"
     fi
-    # a closed stream is told here: what is opened below could take its place
     (: 3<&0) 2>/dev/null || die "standard input cannot be read"
     (: 3>&1) 2>/dev/null || die "the output cannot be written"
+}
+
+# Makes standard input a copy, `book`, that can be read again. It has more bytes than any book, so that what is said of them is said of all; an input
+# that goes on without an end is answered too. Status 1: no place for a copy.
+limit=4096
+copy_book() {
     book=$(mktemp 2>/dev/null) || return 1
     trap 'rm -f "$book"' EXIT
     trap 'exit 1' HUP INT PIPE TERM

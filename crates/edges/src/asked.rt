@@ -20,7 +20,7 @@ const AMPLE: u32 = 4294967295;
 const NOISE: u32 = 4294967295;
 
 // Rows that hold the same, `64x1`, or one row; whose they are; and the place behind them.
-struct Alike {
+pub struct Alike {
     count: usize,
     held: u32,
     own: bool,
@@ -39,7 +39,7 @@ impl Alike {
 }
 
 // These rows behind the others.
-fn with_rows(accounts: Accounts, alike: Alike) -> Accounts {
+pub(crate) fn with_rows(accounts: Accounts, alike: Alike) -> Accounts {
     let mut holdings = accounts.holdings;
     let mut persons = accounts.persons;
     let from = accounts.rows;
@@ -58,7 +58,7 @@ fn with_rows(accounts: Accounts, alike: Alike) -> Accounts {
 }
 
 // Rows that hold this, each its own person, or all of the one whose number follows.
-fn held_at(text: &[u8], at: usize, count: u64) -> Alike {
+pub(crate) fn held_at(text: &[u8], at: usize, count: u64) -> Alike {
     let held = number_at(text, at);
     let own = byte_at(text, held.next) != b':';
     let person = number_at(text, after(held.next));
@@ -79,12 +79,17 @@ fn alike_at(text: &[u8], at: usize) -> Alike {
     held_at(text, at, 1)
 }
 
-fn accounts_at(text: &[u8], at: usize) -> Accounts {
-    let mut accounts = Accounts {
+// No row yet.
+pub(crate) fn nobody() -> Accounts {
+    Accounts {
         holdings: [NOISE; Policy::ROWS],
         persons: [NOISE; Policy::ROWS],
         rows: 0,
-    };
+    }
+}
+
+pub(crate) fn accounts_at(text: &[u8], at: usize) -> Accounts {
+    let mut accounts = nobody();
     let mut place = at;
     for _ in 0..Policy::ROWS {
         let alike = alike_at(text, place);
@@ -100,7 +105,7 @@ fn accounts_at(text: &[u8], at: usize) -> Accounts {
     accounts
 }
 
-fn policy_at(text: &[u8], at: usize) -> Policy {
+pub(crate) fn policy_at(text: &[u8], at: usize) -> Policy {
     let task = number_at(text, at);
     let away = number_at(text, after(task.next));
     let crews = number_at(text, after(away.next));
@@ -118,7 +123,7 @@ fn one(person: u64) -> u64 {
 }
 
 // The set of the persons that stand here; empty where there is no number.
-fn set_at(text: &[u8], at: usize) -> u64 {
+pub(crate) fn set_at(text: &[u8], at: usize) -> u64 {
     let mut set: u64 = 0;
     let mut place = at;
     for _ in 0..Policy::ROWS {
@@ -135,7 +140,7 @@ fn set_at(text: &[u8], at: usize) -> u64 {
     set
 }
 
-fn allowance_at(text: &[u8], at: usize) -> u32 {
+pub(crate) fn allowance_at(text: &[u8], at: usize) -> u32 {
     let place = behind(text, at, b"with");
     if byte_at(text, place) == b'\n' {
         return AMPLE;

@@ -3,6 +3,7 @@
 use crate::asked;
 use crate::books::book_at;
 use crate::books::load;
+use crate::explained;
 use crate::line::Line;
 use crate::pages;
 use crate::parts;
@@ -64,6 +65,9 @@ fn came(text: &[u8], at: usize, wanted: usize) -> Line {
     if is_word(text, at, b"named") {
         return asked::named(text, asked);
     }
+    if is_word(text, at, b"why") {
+        return explained::why(text, asked);
+    }
     if is_word(text, at, b"book") {
         return reader::read(book_at(text, asked));
     }
@@ -108,6 +112,9 @@ fn outcome_of(text: &[u8], at: usize) -> Outcome {
     let wanted = behind(text, at, b"=");
     if is_word(text, at, b"cuts") {
         return reader::cuts(text, asked);
+    }
+    if is_word(text, at, b"all") {
+        return explained::all(text, asked);
     }
     if is_word(text, at, b"both") {
         let skipping = asked::skipping(text, asked);

@@ -23,7 +23,7 @@ pub const LONGEST: usize = 23232;
 // So many bytes of an input decide its sheet: one more than the longest book has.
 pub const ENOUGH: usize = 1061;
 // The units that each policy may take.
-const ALLOWANCE: u32 = 1000000;
+pub const ALLOWANCE: u32 = 1000000;
 
 // What asking for a sheet comes to: how many bytes of the buffer it takes, or that the buffer is shorter than a sheet can be.
 pub enum Writing {
@@ -147,7 +147,7 @@ fn all_lines(book: &[u8], out: &mut [u8]) -> usize
 pub fn sheet(book: &[u8], out: &mut [u8]) -> Writing
     ensures sheet { λ r. ⌜ Promised (now (book .entry)) (now (out .entry)) (now (out .exit)) r ⌝ }
     ensures kept { λ _. ⌜ now (book .exit) ≡ now (book .entry) ⌝ }
-    ensures limits { λ _. do ⌜ ((← ⟦LONGEST⟧ .entry) ≡ longest) × ((← ⟦ENOUGH⟧ .entry) ≡ enough) ⌝ }
+    ensures limits { λ _. do ⌜ ((← ⟦LONGEST⟧ .entry) ≡ longest) × ((← ⟦ENOUGH⟧ .entry) ≡ enough) × ((← ⟦ALLOWANCE⟧ .entry) ≡ allowance) ⌝ }
 {
     if out.len() < LONGEST {
         return Writing::TooShort;

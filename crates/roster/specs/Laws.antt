@@ -5,3 +5,4 @@ pub mod Lists
 pub mod Swap
 pub mod Limits
 pub mod Same
+pub mod Fewer

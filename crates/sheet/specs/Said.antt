@@ -7,8 +7,8 @@ use lib.ListN.{length, take, drop}
 use Rattle.text.specs.Text.{quoted}
 use Rattle.lines.specs.Sheet.{sheetOf}
 use Rattle.sheet.specs.declared.Said.{Said}
-use Rattle.sheet.specs.declared.input.Progress.{Progress}
-use Rattle.sheet.specs.declared.input.Progress.the-variants.{Failed, Whole, More}
+use Rattle.input.specs.declared.Progress.{Progress}
+use Rattle.input.specs.declared.Progress.the-variants.{Failed, Whole, More}
 
 -- the streams: standard output and standard error
 abbrev pub output : ℤ

@@ -1,14 +1,12 @@
 // The program: a roster book from standard input, its sheet to standard output; if the input cannot be read or the sheet cannot be written, a line
-// on standard error that says so. All that can be right or wrong of the sheet is said in `lines`, all else in specs/: what a read's answer means
-// (Input), and which bytes go to which stream (Said). `main` does just that.
-mod input;
-
+// on standard error that says so. All that can be right or wrong of the sheet is said in `lines`, what a read's answer means in `input`, and which
+// bytes go to which stream in specs/Said. `main` does just that.
 use input::Progress;
 use lines::Writing;
 ghost use Prim.Native.Nat.{_≤_};
 ghost use lib.ListN.{length};
 ghost use Rattle.lines.specs.Sheet.{longest};
-ghost use Rattle.sheet.specs.Input.{Settled};
+ghost use Rattle.input.specs.Input.{Settled};
 ghost use Rattle.sheet.specs.Said.{errors, unwritable, streamOf, textOf, Says};
 
 // What is to be written: so many bytes from the front of the buffer, to this stream.

@@ -4,6 +4,8 @@ use crate::known::LISTED;
 use crate::known::Wanted;
 use crate::question::Question;
 use crate::shown::show_difference;
+use reasons::Explained;
+use reasons::Explanation;
 use roster::Reply;
 use roster::Verdict;
 
@@ -30,10 +32,14 @@ pub const LIST: usize = 9;
 
 pub const PLACEMENTS: usize = 10;
 
-pub const KINDS: usize = 11;
+pub const REASON: usize = 11;
 
-// The kinds of verdict.
-pub const VERDICTS: usize = 6;
+pub const REASON_ALLOWANCE: usize = 12;
+
+pub const KINDS: usize = 13;
+
+// The kinds of verdict, reasons and nothing to explain among them.
+pub const VERDICTS: usize = 10;
 
 // How many comparisons of a kind were made, how many differed, and by which table the first.
 pub struct Kind {
@@ -253,4 +259,66 @@ pub(crate) fn before(counts: Counts, question: Question, wanted: Wanted, reply: 
         .noted(LIST, same_answer(came, wanted))
         .noted(PLACEMENTS, came.units <= wanted.units)
         .told(counts, question, wanted, came)
+}
+
+fn reason_code(why: Explanation) -> usize {
+    match why {
+        Explanation::Scarce(_) => known::SCARCE,
+        Explanation::NoCrew => known::NO_CREW,
+        Explanation::Overlap => known::OVERLAP,
+        Explanation::Nothing => known::NOTHING_TO_EXPLAIN,
+        Explanation::Undecided => known::UNDECIDED,
+        Explanation::Refused(_) => known::REFUSED,
+    }
+}
+
+// The permission that is scarce, as a set; none for any other reason.
+fn permission_of(why: Explanation) -> u64 {
+    match why {
+        Explanation::Scarce(permission) => one(permission),
+        _ => 0,
+    }
+}
+
+fn one(permission: u32) -> u64 {
+    if permission < 32 {
+        1u64 << permission
+    } else {
+        0
+    }
+}
+
+// An explanation as it is compared.
+fn explanation(explained: Explained) -> Wanted {
+    let why = explained.why;
+    Wanted {
+        verdict: reason_code(why),
+        crews: [0; LISTED],
+        blocker: permission_of(why),
+        units: explained.units,
+    }
+}
+
+// Why an absence blocks, whole.
+pub(crate) fn why(counts: Counts, question: Question, wanted: Wanted, came: Explained) -> Counts {
+    let told = explanation(came);
+    counts
+        .saw(told.verdict)
+        .noted(REASON, same(told, wanted))
+        .told(counts, question, wanted, told)
+}
+
+// The same within the question's allowance.
+pub(crate) fn why_allowed(
+    counts: Counts,
+    question: Question,
+    wanted: Wanted,
+    came: Explained,
+) -> Counts {
+    let told = explanation(came);
+    let right = wanted.within(question.allowance);
+    counts
+        .saw(told.verdict)
+        .noted(REASON_ALLOWANCE, same(told, right))
+        .told(counts, question, right, told)
 }

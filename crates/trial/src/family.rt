@@ -14,6 +14,7 @@ use crate::question;
 use crate::question::AMPLE;
 use crate::question::Asked;
 use crate::question::Question;
+use crate::reason;
 use accounts::Accounts;
 use roster::Policy;
 ghost use Prim.Native.Nat.{_<_};
@@ -25,7 +26,7 @@ const SMALL: usize = 229376;
 const DRAWN: usize = 6000;
 
 // Where a permission stands in a row's holdings: in its own place, or spread over the whole width.
-fn bit_of(spread: bool, p: usize) -> u32 {
+pub(crate) fn bit_of(spread: bool, p: usize) -> u32 {
     if p >= PERMISSIONS {
         return 0;
     }
@@ -98,6 +99,7 @@ fn size_of(size: usize) -> u32 {
 pub(crate) fn asked_of(staff: Staff, spread: bool, noise: u32) -> Asked {
     let duty = staff.accounts;
     Asked {
+        spread: spread,
         accounts: accounts_of(staff, spread, noise),
         task: task_of(duty, spread),
         crews: duty.crews,
@@ -145,7 +147,25 @@ fn try_named(counts: Counts, question: Question, wanted: Wanted) -> Counts {
     try_within(exact, question, wanted, need - 1)
 }
 
-// The absence with this number: filling held against trying everything, the question for it, and its reply held against the rule before.
+// Why an absence blocks, within an allowance.
+fn try_why_within(counts: Counts, question: Question, wanted: Wanted, allowance: u32) -> Counts {
+    let narrowed = question.within(allowance);
+    compare::why_allowed(counts, narrowed, wanted, narrowed.explained())
+}
+
+// Why an absence blocks: with an ample allowance, with the need, and with one unit less if it needs any.
+fn try_why(counts: Counts, question: Question, wanted: Wanted) -> Counts {
+    let need = wanted.units;
+    let ample = compare::why(counts, question, wanted, question.explained());
+    let exact = try_why_within(ample, question, wanted, need);
+    if need == 0 {
+        return exact;
+    }
+    try_why_within(exact, question, wanted, need - 1)
+}
+
+// The absence with this number: filling held against trying everything, the question for it, its reply held against the rule before, and why
+// it blocks.
 fn try_absence(counts: Counts, known: Known, duty: Duty, asked: Asked, number: usize) -> Counts {
     let absent = known::mask_of(known::set_of(number));
     let wanted = known::named_reply(known, duty, number);
@@ -156,11 +176,17 @@ fn try_absence(counts: Counts, known: Known, duty: Duty, asked: Asked, number: u
         known.fact(number).found,
     );
     let question = question::named(asked, question::NAMED, absent);
-    compare::before(
+    let before = compare::before(
         try_named(filled, question, wanted),
         question::named(asked, question::BEFORE, absent),
         known::unordered_reply(known, duty, number),
         question.reply(),
+    );
+    let why = question::named(asked, question::WHY, absent);
+    try_why(
+        before,
+        why,
+        reason::wanted(known, duty, number, asked.spread),
     )
 }
 
@@ -175,10 +201,13 @@ fn try_absences(counts: Counts, known: Known, duty: Duty, asked: Asked) -> Count
     now
 }
 
-// An absence with the bit just past the persons, which may be a row's: it is refused.
+// An absence with the bit just past the persons, which may be a row's: it is refused, and so is explaining it.
 fn try_past(counts: Counts, duty: Duty, asked: Asked) -> Counts {
-    let question = question::named(asked, question::NAMED, known::past(duty.rows));
-    compare::named(counts, question, known::refused(), question.reply())
+    let past = known::past(duty.rows);
+    let question = question::named(asked, question::NAMED, past);
+    let named = compare::named(counts, question, known::refused(), question.reply());
+    let why = question::named(asked, question::WHY, past);
+    compare::why(named, why, known::refused(), why.explained())
 }
 
 // Each number of people away up to 4.

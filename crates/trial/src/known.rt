@@ -33,7 +33,7 @@ pub struct Known {
     pub order: [usize; SETS],
 }
 
-// What a reply has to be. The verdict is its code.
+// What a reply has to be. The verdict is its code. An explanation's is that of its reason, and its blocker the permission that is scarce, as a set.
 pub struct Wanted {
     pub verdict: usize,
     pub crews: [u64; LISTED],
@@ -53,6 +53,14 @@ pub const CREWS: usize = 3;
 pub const NONE: usize = 4;
 
 pub const REFUSED: usize = 5;
+
+pub const SCARCE: usize = 6;
+
+pub const NO_CREW: usize = 7;
+
+pub const OVERLAP: usize = 8;
+
+pub const NOTHING_TO_EXPLAIN: usize = 9;
 
 // How many sets so many rows have.
 pub(crate) fn sets_of(rows: usize) -> usize

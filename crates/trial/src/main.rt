@@ -1,5 +1,5 @@
 // The independent second program. It decides small tables by trying everything and computes units, first crews and the order of absences by
-// a plain transcription of the rules, with code and a data layout of its own; of the libraries it takes the types and the three questions, which it
+// a plain transcription of the rules, with code and a data layout of its own; of the libraries it takes the types and the questions, which it
 // asks, and compares. It prints how many comparisons of each kind it made and how many differ, which has to be none; then, of wrong replies that it
 // plants, how many the comparisons find, which has to be all. Of a kind that differs the first difference is shown.
 mod brute;
@@ -12,6 +12,7 @@ mod persons;
 mod plain;
 mod planted;
 mod question;
+mod reason;
 mod shown;
 
 use compare::Counts;
@@ -25,7 +26,7 @@ use shown::show_verdict;
 // "NAME: N compared, M differ"
 fn show(kind: usize, counted: Kind) {
     show_name(
-        b"verdict|blocker|crews|units|named absence|both searches|need of skipping at most that of full|allowance|filling and trying everything|list by the rule before|placements at most by that rule",
+        b"verdict|blocker|crews|units|named absence|both searches|need of skipping at most that of full|allowance|filling and trying everything|list by the rule before|placements at most by that rule|reason|reason within an allowance",
         kind,
     );
     io::write_all(1, b": ");

@@ -9,14 +9,19 @@ use crate::plain::Duty;
 use crate::question;
 use crate::question::Asked;
 use crate::question::Question;
+use crate::reason;
+use reasons::Explained;
+use reasons::Explanation;
 use roster::Reply;
 use roster::Verdict;
 
-// What is planted into: the replies to the paper's example a by both searches, and to one named absence, with what each has to be.
+// What is planted into: the replies to the paper's example a by both searches, to one named absence, and why another blocks, with what each has to
+// be.
 pub struct Ground {
     asked: Asked,
     policy: Wanted,
     named: Wanted,
+    why: Wanted,
 }
 
 // Rows that hold 3, 1, 2 and 3, asked for two crews of two.
@@ -45,6 +50,7 @@ pub(crate) fn example_ground() -> Ground {
         asked: asked,
         policy: known.policy_reply(duty, true, 1),
         named: known::named_reply(known, duty, 1),
+        why: reason::wanted(known, duty, 9, false),
     }
 }
 
@@ -59,6 +65,12 @@ impl Ground {
     fn named_question(self, way: usize) -> Question {
         let asked = self.asked;
         question::named(asked, way, 1)
+    }
+
+    // Why the absence of the first and the last row blocks: a permission is scarce.
+    fn why_question(self) -> Question {
+        let asked = self.asked;
+        question::named(asked, question::WHY, 9)
     }
 }
 
@@ -158,6 +170,47 @@ fn before(counts: Counts, ground: Ground, from: usize, to: usize) -> Counts {
     now
 }
 
+// The explanation with one part altered: the reason, the permission or the units.
+fn misexplained(explained: Explained, part: usize) -> Explained {
+    let right = explained.why;
+    Explained {
+        why: if part == 0 {
+            Explanation::NoCrew
+        } else if part == 1 {
+            Explanation::Scarce(1)
+        } else {
+            right
+        },
+        units: if part == 2 {
+            explained.units ^ 4
+        } else {
+            explained.units
+        },
+    }
+}
+
+// The comparison of reasons, with each part altered.
+fn why(counts: Counts, ground: Ground) -> Counts {
+    let question = ground.why_question();
+    let wanted = ground.why;
+    let explained = question.explained();
+    let reason = compare::why(counts, question, wanted, misexplained(explained, 0));
+    let permission = compare::why(reason, question, wanted, misexplained(explained, 1));
+    compare::why(permission, question, wanted, misexplained(explained, 2))
+}
+
+// The comparison of reasons under an allowance: a reason where one unit less than the need is allowed, and a part altered where the need is.
+fn why_allowed(counts: Counts, ground: Ground) -> Counts {
+    let question = ground.why_question();
+    let wanted = ground.why;
+    let explained = question.explained();
+    let less = compare::why_allowed(counts, question.within(1), wanted, explained);
+    let exact = question.within(2);
+    let reason = compare::why_allowed(less, exact, wanted, misexplained(explained, 0));
+    let permission = compare::why_allowed(reason, exact, wanted, misexplained(explained, 1));
+    compare::why_allowed(permission, exact, wanted, misexplained(explained, 2))
+}
+
 // The comparison of one kind, on wrong replies alone.
 pub(crate) fn planted(counts: Counts, ground: Ground, kind: usize) -> Counts {
     if kind <= compare::UNITS {
@@ -177,6 +230,12 @@ pub(crate) fn planted(counts: Counts, ground: Ground, kind: usize) -> Counts {
     }
     if kind == compare::LIST {
         return before(counts, ground, compare::VERDICT, compare::UNITS);
+    }
+    if kind == compare::REASON {
+        return why(counts, ground);
+    }
+    if kind == compare::REASON_ALLOWANCE {
+        return why_allowed(counts, ground);
     }
     if kind == compare::PLACEMENTS {
         return before(counts, ground, compare::UNITS, compare::NAMED);

@@ -1,12 +1,13 @@
 // A question as the libraries are asked it.
 use accounts::Accounts;
+use reasons::Explained;
 use roster::Reply;
 
 // More than any need here.
 pub const AMPLE: u32 = 4294967295;
 
-// The ways to ask: either search, the two against each other, a named absence, and filling crews for one against trying everything or against
-// the rule before.
+// The ways to ask: either search, the two against each other, a named absence, filling crews for one against trying everything or against the
+// rule before, and why one blocks.
 pub const SKIPPING: usize = 0;
 
 pub const FULL: usize = 1;
@@ -19,8 +20,11 @@ pub const FILLING: usize = 4;
 
 pub const BEFORE: usize = 5;
 
-// A duty as the libraries have it.
+pub const WHY: usize = 6;
+
+// A duty as the libraries have it, and whether its permissions are spread over the whole width.
 pub struct Asked {
+    pub spread: bool,
     pub accounts: Accounts,
     pub task: u32,
     pub crews: usize,
@@ -81,6 +85,20 @@ impl Question {
             return asked.full(self.away, self.allowance);
         }
         asked.named(self.absent, self.allowance)
+    }
+
+    // How the library explains the absence.
+    pub(crate) fn explained(self) -> Explained {
+        let asked = self.asked;
+        let accounts = asked.accounts;
+        reasons::why(
+            accounts,
+            asked.task,
+            asked.crews,
+            asked.size,
+            self.absent,
+            self.allowance,
+        )
     }
 }
 

@@ -6,7 +6,7 @@ use crate::question::Question;
 use accounts::Accounts;
 
 // More bytes than names take that stand in one text.
-const NAMES: usize = 200;
+const NAMES: usize = 250;
 
 // Writes one of the names that stand in a text with bars between them.
 pub(crate) fn show_name(names: &[u8], which: usize) {
@@ -23,7 +23,10 @@ pub(crate) fn show_name(names: &[u8], which: usize) {
 }
 
 pub(crate) fn show_verdict(code: usize) {
-    show_name(b"yes|no|undecided|crews|none|refused", code);
+    show_name(
+        b"yes|no|undecided|crews|none|refused|reason 1|reason 2|reason 3|nothing to explain",
+        code,
+    );
 }
 
 fn wide(n: u32) -> u64 {
@@ -104,7 +107,7 @@ fn show_reply(reply: Wanted) {
 fn show_question(question: Question) {
     let asked = question.asked;
     let accounts = asked.accounts;
-    show_name(b"skipping|full|both|named|filling|before", question.way);
+    show_name(b"skipping|full|both|named|filling|before|why", question.way);
     show_accounts(accounts);
     show_number(b' ', wide(asked.task));
     show_number(b';', wide(question.away));

@@ -1,22 +1,23 @@
 -- The need of a policy question in 01's words: "the sum over the absences tried, up to and including the first that blocks, or all if none does".
 -- First the sum over a list, by what the filling finds; exactness of the filling then puts `Blocks` in its place. Assumes nothing.
 use mathlib.Core.Path.{_≡_, refl, sym, ap, _∙_, subst}
-use mathlib.Core.Logic.{⊎-elim}
+use mathlib.Core.Logic.{_⊎_, inl, inr, ⊎-elim}
 use mathlib.Core.Bool.{Bool, true, false}
 use mathlib.Core.List.{List, [], _∷_, _++_, List·Memᴰ, List·Memᴰ·head, List·Memᴰ·tail, Memᴰ·append-left}
 use Prim.Native.Nat.{ℕ, _+_, _^_, _<_}
 use native.Mathlib.Omega.{arith}
 use Rattle.sets.specs.Laws.Sums.{either}
 use Rattle.roster.specs.declared.Table.{Table}
-use Rattle.roster.specs.Meaning.{Blocks}
+use Rattle.roster.specs.Meaning.{Blocks, FirstBlocker}
+use Rattle.roster.specs.Laws.Order.{first-blocker-unique}
 use Rattle.crews.specs.Filling.{Outcome, filling}
 use Rattle.crews.specs.Named.{needNamed}
 use Rattle.crews.specs.Laws.Exact.{Fair, blocks-none, finds-none}
 use Rattle.absences.specs.Tried.{Way, tried, Found, unitsOf, weighed}
-use Rattle.absences.specs.Asked.{Admits, needPolicy}
+use Rattle.absences.specs.Asked.{Admits, found, needPolicy}
 use Rattle.absences.specs.Laws.Listed.{tried-sound}
-use Rattle.absences.specs.Laws.Weighed.{weighed-fits, weighed-blocks, weighed-none}
-use Rattle.absences.specs.Laws.Decided.{admitted-fair}
+use Rattle.absences.specs.Laws.Weighed.{clash, weighed-fits, weighed-blocks, weighed-none}
+use Rattle.absences.specs.Laws.Decided.{first-not-holds, none-blocks, one-blocks, admitted-fair}
 
 -- the sum over a list
 unfoldable pub sumOf : (ℕ → ℕ) → List ℕ → ℕ
@@ -54,6 +55,21 @@ module _ (fill : ℕ → Outcome) where
       let rest = first-summed l m B (λ C i. f C (List·Memᴰ·tail i)) b in
       omega (arith, ap Found.need (weighed-fits fill A (l ++ (B ∷ m)) (f A (List·Memᴰ·head refl))))
 
+  -- the placements with the one that blocks are among the units
+  stopped-paid : (l : List ℕ) → weighed fill l .blocked ≡ true → fill (weighed fill l .blocker) .need < need l
+  stopped-paid [] e = absurd (clash e (ap Found.blocked (weighed-none fill)))
+  stopped-paid (A ∷ l) e = go (either (fits A)) (stopped-paid l)
+    where
+      at : {B C : ℕ} → B ≡ C → fill B .need ≡ fill C .need
+      at q = ap (λ (B : ℕ). fill B .need) q
+
+      go : (fits A ≡ true) ⊎ (fits A ≡ false) → (weighed fill l .blocked ≡ true → fill (weighed fill l .blocker) .need < need l)
+          → fill (weighed fill (A ∷ l) .blocker) .need < need (A ∷ l)
+      go (inl f) ih =
+          let w = weighed-fits fill A l f in
+          omega (arith, at (ap Found.blocker w), ap Found.need w, ih (sym (ap Found.blocked w) ∙ e))
+      go (inr f) ih = let w = weighed-blocks fill A l f in omega (arith, at (ap Found.blocker w), ap Found.need w)
+
 -- ---- what a policy question needs
 
 module _ (way : Way) (table : Table) (P s d t : ℕ) (wide : P < 2 ^ 32) (admitted : Admits table P s d t) where
@@ -77,3 +93,15 @@ module _ (way : Way) (table : Table) (P s d t : ℕ) (wide : P < 2 ^ 32) (admitt
       ap (need (filling table P d t)) split
       ∙ first-summed (filling table P d t) l m B
       (λ A i. does-fit A (subst (List·Memᴰ A) (sym split) (Memᴰ·append-left (B ∷ m) i)) (none A i)) (blocks-none fair t B b)
+
+  -- more than the placements with its first blocker absent, which are part of it
+  pub blocker-need : (B : ℕ) → FirstBlocker table P s d t B → needNamed table P d t B < needPolicy way table P s d t
+  blocker-need B f = go (either (found way table P s d t .blocked))
+    where
+      go : (found way table P s d t .blocked ≡ true) ⊎ (found way table P s d t .blocked ≡ false)
+          → needNamed table P d t B < needPolicy way table P s d t
+      go (inl e) =
+          subst (λ (A : ℕ). needNamed table P d t A < needPolicy way table P s d t)
+          (first-blocker-unique table P s d t (found way table P s d t .blocker) B (one-blocks way table P s d t fair e) f)
+          (stopped-paid (filling table P d t) (tried way table P s) e)
+      go (inr e) = absurd (first-not-holds table P s d t B f (none-blocks way table P s d t fair e))

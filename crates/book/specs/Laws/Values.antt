@@ -94,9 +94,10 @@ code-back listed (some y) x l a m = none-amiss (leb x y) fault.Code 0 Nothing (l
 
 -- a row is sound exactly if it has neither fault
 row-sound : (persons low beyond : Bool) → rowAmiss persons low beyond ≡ Nothing → (low ≡ false) × (beyond ≡ false)
-row-sound persons low beyond e =
-    let first = not-amiss low fault.Staff 0 _ e in
-    (first .0, not-amiss beyond fault.Holdings _ Nothing (first .1) .0)
+row-sound persons false false e = (refl, refl)
+row-sound persons false true e = (refl, cc)
+row-sound persons true false e = (cc, refl)
+row-sound persons true true e = (cc, cc)
 
 sound-row : (persons : Bool) {low beyond : Bool} → low ≡ false → beyond ≡ false → rowAmiss persons low beyond ≡ Nothing
 sound-row persons l b = rw (l, b)

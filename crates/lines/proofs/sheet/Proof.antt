@@ -71,7 +71,7 @@ is-bytes c i = c .shared-slice-known .given i .fits
 
 returns : tie.Need-returns
 returns c =
-    (record { written = λ h. absurd (omega arith); short = λ h. (refl, refl) }, (refl, (refl, refl)))
+    (record { written = λ h. absurd (omega arith); short = λ h. (refl, refl) }, (refl, (refl, refl, refl)))
 
 read-requires : tie.Need-read-requires
 read-requires c κs = search needs
@@ -98,7 +98,7 @@ returns-2 : tie.Need-returns-2
 returns-2 c =
     let p = c .before .before .before in
     let a = p .before .before .before .before .before .before .before .before .before .args in
-    (promised (a .book .now) (a .out .now) (is-bytes (p .before .before .before .before .before .before .before .before)) (p .before .before .before .before .before .before .if1 .left) _ _ (read-as (bad p) (c .before .before .bad-line .ensures)), (refl, (refl, refl)))
+    (promised (a .book .now) (a .out .now) (is-bytes (p .before .before .before .before .before .before .before .before)) (p .before .before .before .before .before .before .if1 .left) _ _ (read-as (bad p) (c .before .before .bad-line .ensures)), (refl, (refl, refl, refl)))
 
 same-length-2 : tie.Need-same-length-2
 same-length-2 c = search needs
@@ -107,7 +107,7 @@ returns-3 : tie.Need-returns-3
 returns-3 c =
     let p = c .before .before .before .before in
     let a = p .before .before .before .before .before .before .args in
-    (promised (a .book .now) (a .out .now) (is-bytes (p .before .before .before .before .before)) (p .before .before .before .if1 .left) _ _ (read-as (lines p) (c .before .before .all-lines .ensures)), (refl, (refl, refl)))
+    (promised (a .book .now) (a .out .now) (is-bytes (p .before .before .before .before .before)) (p .before .before .before .if1 .left) _ _ (read-as (lines p) (c .before .before .all-lines .ensures)), (refl, (refl, refl, refl)))
 
 pub sheet-spec : {M : Type 1} → statement M
 sheet-spec =

@@ -7,7 +7,7 @@ use mathlib.Core.List.{List, map}
 use Prim.Native.Nat.{ℕ, _^_, _≤_, _<_, min}
 use native.Mathlib.Omega.{arith}
 use lib.Dec.{leb}
-use borrow.Author.Tests.{leb-true, le-leb}
+use borrow.Author.Tests.{leb-true, le-leb, lt-leb}
 use lib.ListN.{take}
 use Rattle.sets.specs.Sets.{Has}
 use Rattle.roster.specs.declared.Refusal.{Refusal}
@@ -19,7 +19,7 @@ use Rattle.roster.specs.declared.Reply.{Reply}
 use Rattle.roster.specs.Limits.{rowLimit}
 use Rattle.roster.specs.Refusals.{refusedIf, policyRuling, namedRuling}
 use Rattle.roster.specs.Replies.{noCrews, replyWith}
-use Rattle.roster.specs.Laws.Rulings.{orElse, named-after-policy, policy-rows, named-rows, policy-few, past-rows-iff}
+use Rattle.roster.specs.Laws.Rulings.{orElse, named-after-policy, policy-nobody, policy-rows, named-rows, policy-few, past-rows-iff}
 use Rattle.crews.specs.Named.{needNamed, NamedReply}
 use Rattle.crews.specs.Laws.Named as named
 use Rattle.absences.specs.Tried.{Way, full, skipping}
@@ -189,13 +189,32 @@ pub record NamedTells (a : Accounts) (P d t A allowance : ℕ) (r : Reply) : Typ
   pub units : personsRuling a P d t A ≡ ruling.Admitted → r .units ≡ min (needNamed (merged a) P d t A) allowance
   pub unspent : (refusal : Refusal) → r .verdict ≡ Refused refusal → r .units ≡ 0
 
-module _ (a : Accounts) (P d t A allowance : ℕ) (wide : P < 2 ^ 32) (r : Reply) (k : NamedAsked a P d t A allowance r) where
+module _ (a : Accounts) (P d t A : ℕ) where
   -- with at most 64 rows the ruling is that of the merged table
   ruled : a .rows ≤ rowLimit → namedRuling (persons a) P d t A ≡ personsRuling a P d t A
   ruled l =
       named-after-policy (persons a) P d t A
       ∙ ap (λ (x : Ruling). orElse x (refusedIf (leb (2 ^ persons a) A) Absence ruling.Admitted)) (policy-few (persons a) (a .rows) P 0 d t (persons-few a) l)
 
+  -- with more it is refusal 1
+  ruled-many : rowLimit < a .rows → personsRuling a P d t A ≡ ruling.Refused Rows
+  ruled-many l = ap (λ (x : Ruling). orElse x (refusedIf (leb (2 ^ persons a) A) Absence ruling.Admitted)) (policy-rows (a .rows) P 0 d t .1 l)
+
+  -- what is admitted is admitted of the merged table
+  pub persons-admitted : personsRuling a P d t A ≡ ruling.Admitted → namedRuling (persons a) P d t A ≡ ruling.Admitted
+  persons-admitted ok = go (many-or-few a)
+    where
+      go : ManyOrFew a → namedRuling (persons a) P d t A ≡ ruling.Admitted
+      go (inl (l, e)) = let many = ruled-many l in never (cc)
+      go (inr (l, e)) = ruled l ∙ ok
+
+  -- and a set of persons is, where the policy is
+  pub admitted-persons : (s : ℕ) → policyRuling (a .rows) P s d t ≡ ruling.Admitted → A < 2 ^ persons a → personsRuling a P d t A ≡ ruling.Admitted
+  admitted-persons s ok l =
+      ap (λ (x : Ruling). orElse x (refusedIf (leb (2 ^ persons a) A) Absence ruling.Admitted)) (policy-nobody (a .rows) P s d t ok)
+      ∙ ap (λ (b : Bool). refusedIf b Absence ruling.Admitted) (lt-leb (2 ^ persons a) A l)
+
+module _ (a : Accounts) (P d t A allowance : ℕ) (wide : P < 2 ^ 32) (r : Reply) (k : NamedAsked a P d t A allowance r) where
   refused-told : (refusal : Refusal) → personsRuling a P d t A ≡ ruling.Refused refusal → r ≡ replyWith noCrews 0 0 0 (Refused refusal)
       → NamedTells a P d t A allowance r
   refused-told refusal ruled e =
@@ -213,7 +232,7 @@ module _ (a : Accounts) (P d t A allowance : ℕ) (wide : P < 2 ^ 32) (r : Reply
   admitted-told : a .rows ≤ rowLimit → namedRuling (persons a) P d t A ≡ ruling.Admitted → NamedReply (merged a) P d t A allowance r
       → NamedTells a P d t A allowance r
   admitted-told l ok m =
-      let same = ruled l in
+      let same = ruled a P d t A l in
       let refuses = named.named-refused (merged a) P d t A allowance wide r m in
       let undecided = named.named-undecided (merged a) P d t A allowance wide r m ok in
       let crews = named.named-crews (merged a) P d t A allowance wide r m ok in
@@ -239,12 +258,10 @@ module _ (a : Accounts) (P d t A allowance : ℕ) (wide : P < 2 ^ 32) (r : Reply
       few : a .rows ≤ rowLimit → NamedReply (merged a) P d t A allowance r → (x : Ruling) → namedRuling (persons a) P d t A ≡ x
           → NamedTells a P d t A allowance r
       few l m ruling.Admitted e = admitted-told l e m
-      few l m (ruling.Refused refusal) e = refused-told refusal (sym (ruled l) ∙ e) (m .refused refusal e)
+      few l m (ruling.Refused refusal) e = refused-told refusal (sym (ruled a P d t A l) ∙ e) (m .refused refusal e)
 
       go : ManyOrFew a → NamedTells a P d t A allowance r
-      go (inl (l, e)) =
-          refused-told Rows (ap (λ (x : Ruling). orElse x (refusedIf (leb (2 ^ persons a) A) Absence ruling.Admitted)) (policy-rows (a .rows) P 0 d t .1 l))
-          (k .refused Rows e)
+      go (inl (l, e)) = refused-told Rows (ruled-many a P d t A l) (k .refused Rows e)
       go (inr (l, e)) = few l (k .admitted e) (namedRuling (persons a) P d t A) refl
 
   pub named-refused-rows : (r .verdict ≡ Refused Rows) ↔ (rowLimit < a .rows)

@@ -1,5 +1,5 @@
 -- What a ruling says: an admitted question has its numbers within the limits, and the two orders of refusal are one order. Assumes nothing.
-use mathlib.Core.Path.{_≡_, refl, sym, ap, _∙_}
+use mathlib.Core.Path.{_≡_, refl, sym, ap, ap₂, _∙_}
 use mathlib.Core.Logic.{_↔_, _≢_}
 use mathlib.Core.Bool.{Bool, true, false, _||_}
 use Prim.Native.Nat.{ℕ, _+_, _/_, _^_, _≤_, _<_}
@@ -8,7 +8,7 @@ use native.Mathlib.Decide.{decLe}
 use native.Mathlib.Omega.{arith}
 use lib.Count.{trailingZeros}
 use lib.Dec.{eqb, leb, ltb}
-use borrow.Author.Tests.{ltb-true, ltb-false, lt-ltb, le-ltb, leb-false, eqb-false}
+use borrow.Author.Tests.{ltb-true, ltb-false, lt-ltb, le-ltb, leb-false, eqb-false, ne-eqb}
 use Rattle.sets.specs.Sets.{Has, bit-high, bit-shr, shifted-out, trailing-least}
 use Rattle.roster.specs.declared.Refusal.{Refusal}
 use Rattle.roster.specs.declared.Refusal.the-variants.{Rows, Task, Away, Crews, Size, Absence}
@@ -93,6 +93,30 @@ pub named-within : (rows P d t A : ℕ) → namedRuling rows P d t A ≡ Admitte
 named-within rows P d t A e =
     let x = neither _ _ (sym (named-after-policy rows P d t A) ∙ e) in
     (policy-within rows P 0 d t (x .0), leb-false (2 ^ rows) A (no-fault _ _ _ (x .1) .0))
+
+-- what is within the limits is not outside
+within-inside : (most x : ℕ) → 1 ≤ x → x ≤ most → outside most x ≡ false
+within-inside most x some few = ap₂ _||_ (ne-eqb x 0 (λ e. omega arith)) (le-ltb most x few)
+
+-- fewer away are admitted where s are
+pub policy-nobody : (rows P s d t : ℕ) → policyRuling rows P s d t ≡ Admitted → policyRuling rows P 0 d t ≡ Admitted
+unfolding policyRuling
+policy-nobody rows P s d t e =
+    let k = policy-within rows P s d t e in
+    ap
+    (λ (b : Bool). refusedIf (ltb rowLimit rows) Rows (refusedIf (eqb P 0) Task (refusedIf b Away (refusedIf (outside crewLimit d) Crews (refusedIf (outside sizeLimit t) Size Admitted)))))
+    (sym (le-ltb awayLimit s (k .away)))
+    ∙ e
+
+-- one crew is admitted where d are
+pub named-one : (rows P d t A : ℕ) → namedRuling rows P d t A ≡ Admitted → namedRuling rows P 1 t A ≡ Admitted
+unfolding namedRuling
+named-one rows P d t A e =
+    let k = named-within rows P d t A e .0 in
+    ap
+    (λ (b : Bool). refusedIf (ltb rowLimit rows) Rows (refusedIf (eqb P 0) Task (refusedIf b Crews (refusedIf (outside sizeLimit t) Size (refusedIf (leb (2 ^ rows) A) Absence Admitted)))))
+    (sym (within-inside crewLimit d (k .some) (k .few)))
+    ∙ e
 
 -- ---- refusal 1: more rows than the limit, and it is the only one that looks at how many there are
 

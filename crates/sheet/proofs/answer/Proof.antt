@@ -11,11 +11,11 @@ use Rattle.lines.specs.declared.Writing.{Writing}
 use Rattle.lines.specs.declared.Writing.the-variants.{Written, TooShort}
 use Rattle.lines.specs.Sheet.{sheetOf, longest, Promised}
 use Rattle.sheet.specs.declared.Said.{Said}
-use Rattle.sheet.specs.declared.input.Progress.{Progress}
-use Rattle.sheet.specs.declared.input.Progress.the-variants.{Failed, Whole, More}
-use Rattle.sheet.specs.Input.{Settled}
+use Rattle.input.specs.declared.Progress.{Progress}
+use Rattle.input.specs.declared.Progress.the-variants.{Failed, Whole, More}
+use Rattle.input.specs.Input.{Settled}
 use Rattle.sheet.specs.Said.{output, errors, unreadable, streamOf, textOf, Says}
-use Rattle.sheet.proofs.input.Progress.{the-type}
+use Rattle.input.proofs.Progress.{the-type}
 use borrow.Author.Needs.{needs}
 use Rattle.sheet.proofs.answer.Statement.{statement}
 use Rattle.sheet.proofs.answer.Tie as tie

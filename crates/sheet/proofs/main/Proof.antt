@@ -18,9 +18,6 @@ long = omega (arith, length-replicate {A = ℕ} longest 0)
 stands : (stream : ℤ) (text old new : List ℕ) (r : Said) → Says stream text old new r → r .length ≤ length new
 stands stream text old new r s = omega (arith, s .long, ap length (s .front), length-append text (drop (length text) old))
 
-slice-aggregate-read-book : tie.Need-slice-aggregate-read-book
-slice-aggregate-read-book c = search needs
-
 read-book-requires : tie.Need-read-book-requires
 read-book-requires c κs = search needs
 
@@ -31,7 +28,7 @@ slice-aggregate-answer-2 : tie.Need-slice-aggregate-answer-2
 slice-aggregate-answer-2 c = search needs
 
 answer-requires : tie.Need-answer-requires
-answer-requires c κs = (c .before .before .before .read-book .ensures, long)
+answer-requires c κs = (c .before .before .read-book .ensures .0, long)
 
 slice-aggregate-write : tie.Need-slice-aggregate-write
 slice-aggregate-write c = search needs
@@ -61,7 +58,6 @@ pub main-spec : {M : Type 1} → statement M
 main-spec =
     tie.close
     (tie.spec
-    slice-aggregate-read-book
     read-book-requires
     slice-aggregate-answer
     slice-aggregate-answer-2

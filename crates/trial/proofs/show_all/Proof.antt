@@ -5,10 +5,10 @@ use Rattle.trial.proofs.show_all.Statement.{statement}
 use Rattle.trial.proofs.show_all.Tie as tie
 
 abbrev Inv-loop : tie.InvT-loop
-Inv-loop counts kind₀ kind = kind ≤ 11
+Inv-loop counts kind₀ kind = kind ≤ 13
 
 abbrev μ-loop : tie.MeasureT-loop
-μ-loop counts kind₀ kind = 11 - kind
+μ-loop counts kind₀ kind = 13 - kind
 
 pub show-all-spec : {M : Type 1} → statement M
 show-all-spec =

@@ -5,10 +5,10 @@ use Rattle.trial.proofs.show_all_planted.Statement.{statement}
 use Rattle.trial.proofs.show_all_planted.Tie as tie
 
 abbrev Inv-loop : tie.InvT-loop
-Inv-loop ground kind₀ kind = kind ≤ 11
+Inv-loop ground kind₀ kind = kind ≤ 13
 
 abbrev μ-loop : tie.MeasureT-loop
-μ-loop ground kind₀ kind = 11 - kind
+μ-loop ground kind₀ kind = 13 - kind
 
 pub show-all-planted-spec : {M : Type 1} → statement M
 show-all-planted-spec =

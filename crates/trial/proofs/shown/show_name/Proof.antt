@@ -5,10 +5,10 @@ use Rattle.trial.proofs.shown.show_name.Statement.{statement}
 use Rattle.trial.proofs.shown.show_name.Tie as tie
 
 abbrev Inv-loop : tie.InvT-loop
-Inv-loop names which at₀ i₀ at i = i ≤ 200
+Inv-loop names which at₀ i₀ at i = i ≤ 250
 
 abbrev μ-loop : tie.MeasureT-loop
-μ-loop names which at₀ i₀ at i = 200 - i
+μ-loop names which at₀ i₀ at i = 250 - i
 
 pub show-name-spec : {M : Type 1} → statement M
 show-name-spec =

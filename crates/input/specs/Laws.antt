@@ -1,0 +1,17 @@
+-- That the definitions mean what they should. Assumes nothing.
+use mathlib.Core.Path.{_≡_, refl}
+use lib.IntN.{pos, negsuc}
+use Rattle.input.specs.declared.Progress.the-variants.{Failed, Whole, More}
+use Rattle.input.specs.Input.{grownBy, afterRead}
+
+-- the decision after a read at its edges, by running it: a failed read at the front and later, the end of the input, a part of it, one byte less
+-- than enough, just enough in two reads and in one
+pub decisions : (afterRead 0 (negsuc 0) ≡ Failed)
+    × (afterRead 60 (negsuc 0) ≡ Failed)
+    × (afterRead 60 (pos 0) ≡ Whole 60)
+    × (afterRead 0 (pos 60) ≡ More 60)
+    × (afterRead 60 (pos 1000) ≡ More 1060)
+    × (afterRead 1060 (pos 1) ≡ Whole 1061)
+    × (afterRead 0 (pos 1061) ≡ Whole 1061)
+unfolding afterRead grownBy
+decisions = (refl, refl, refl, refl, refl, refl, refl)
