@@ -55,15 +55,17 @@ copy_book() {
     exec <"$book"
 }
 
-# Runs the program on standard input. Status 1 if it complains or does not end by itself: a program has no status of its own, and what it complains
-# of goes to standard error, where it says nothing else. It is a program for x86-64 and runs under the kit's loader and C library; on another
-# processor the kit has an emulator beside its compiler.
-run() { # NAME
+# Runs the program on standard input, with the arguments if there are any. Status 1 if it complains or does not end by itself: a program has no status
+# of its own, and what it complains of goes to standard error, where it says nothing else. It is a program for x86-64 and runs under the kit's loader
+# and C library; on another processor the kit has an emulator beside its compiler.
+run() { # NAME ARGUMENT..
+    program=$root/target/bin/$1
+    shift
     tools=$kit/on/$(uname -m)/toolchain
     loader=$tools/lib/ld-linux-x86-64.so.2 emulator=$tools/bin/qemu-x86_64
     [ -x "$emulator" ] || emulator=''
     status=0
-    { complaint=$(${emulator:+"$emulator"} "$loader" --library-path "$tools/lib" "$root/target/bin/$1" 2>&1 >&3 3>&-) || status=1; } 3>&1
+    { complaint=$(${emulator:+"$emulator"} "$loader" --library-path "$tools/lib" "$program" "$@" 2>&1 >&3 3>&-) || status=1; } 3>&1
     [ -z "$complaint" ] || { status=1; printf '%s\n' "$complaint" >&2 || :; }
     return "$status"
 }

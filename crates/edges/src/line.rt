@@ -105,7 +105,7 @@ impl Line {
         line
     }
 
-    fn verdict(self, verdict: Verdict) -> Line {
+    pub(crate) fn verdict(self, verdict: Verdict) -> Line {
         match verdict {
             Verdict::Yes => self.word(b"yes"),
             Verdict::No => self.word(b"no"),

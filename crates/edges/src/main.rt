@@ -1,12 +1,13 @@
-// Runs every edge that the rules list: the questions, the reader of the roster book, the parts of a book, the sheet and the writer. Each reply
-// is compared with one that is written out in data/*.cases, and never made by the code under test. For each group of cases it prints how many
-// comparisons were made and how many differ, which has to be none; of the cases that are wrong on purpose (planted.cases) all differ, and of those
-// the first is shown as any that differs would be.
+// Runs every edge that the rules list: the questions, the reader of the roster book, the parts of a book, the sheet, the writer and the live roster.
+// Each reply is compared with one that is written out in data/, in *.cases or as a history (history.rt), and never made by the code under test. For
+// each group of cases it prints how many comparisons were made and how many differ, which has to be none; of what is wrong on purpose (planted.*) all
+// differ, and of those the first is shown as any that differs would be.
 mod asked;
 mod books;
 mod cases;
 mod draft;
 mod explained;
+mod history;
 mod line;
 mod pages;
 mod parts;
@@ -21,5 +22,8 @@ fn main() {
     cases::show_file(b"sheets.cases");
     cases::show_file(b"pages.cases");
     cases::show_file(b"reasons.cases");
+    history::show_file(b"a live roster, one history", b"roster-07.txt");
+    history::show_file(b"a live roster at its edges", b"roster.history");
     cases::show_file(b"planted.cases");
+    history::show_file(b"planted lines of a history", b"planted.history");
 }

@@ -50,7 +50,7 @@ pub struct Kind {
 
 impl Kind {
     // One comparison more, by this table, a difference unless both sides are the same.
-    fn with(self, same: bool, table: usize) -> Kind {
+    pub(crate) fn with(self, same: bool, table: usize) -> Kind {
         let differs = if same { 0 } else { 1 };
         Kind {
             compared: std::num::wrapping_add_u64(self.compared, 1),
@@ -60,7 +60,7 @@ impl Kind {
     }
 }
 
-const NONE: Kind = Kind {
+pub const NONE: Kind = Kind {
     compared: 0,
     differ: 0,
     first: 0,
@@ -179,7 +179,7 @@ fn same_crews(a: [u64; LISTED], b: [u64; LISTED]) -> bool {
 }
 
 // A reply as it is compared, its verdict a code.
-fn told(reply: Reply) -> Wanted {
+pub(crate) fn told(reply: Reply) -> Wanted {
     let verdict = reply.verdict;
     let crews = reply.crews;
     Wanted {
@@ -197,7 +197,7 @@ fn same_answer(a: Wanted, b: Wanted) -> bool {
     a.verdict == b.verdict && a.blocker == b.blocker && same_crews(mine, other)
 }
 
-fn same(a: Wanted, b: Wanted) -> bool {
+pub(crate) fn same(a: Wanted, b: Wanted) -> bool {
     a.units == b.units && same_answer(a, b)
 }
 

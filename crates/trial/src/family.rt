@@ -231,7 +231,7 @@ fn small_cells(number: usize) -> [bool; 36] {
 }
 
 // The task from a number: its binary digits.
-fn small_task(number: usize) -> [bool; PERMISSIONS] {
+pub(crate) fn small_task(number: usize) -> [bool; PERMISSIONS] {
     let mut task = [false; PERMISSIONS];
     let mut left = number;
     for p in 0..PERMISSIONS {
@@ -279,7 +279,7 @@ pub(crate) fn try_all_small(counts: Counts) -> Counts {
 }
 
 // The next of a fixed row of numbers that look random (xorshift).
-fn next(state: u64) -> u64 {
+pub(crate) fn next(state: u64) -> u64 {
     let a = state ^ (state << 13);
     let b = a ^ (a >> 7);
     b ^ (b << 17)
@@ -297,7 +297,7 @@ fn drawn_cells(number: u64) -> [bool; 36] {
 }
 
 // The number's last digit to this base, which is at most 64.
-fn digit(number: u64, base: u64) -> usize
+pub(crate) fn digit(number: u64, base: u64) -> usize
     ensures { λ r. ⌜ r < 64 ⌝ }
 {
     if base == 0 {
@@ -357,7 +357,7 @@ fn next_drawn(a: u64) -> u64 {
     next(next(next(next(a))))
 }
 
-const FIRST_DRAWN: u64 = 88172645463325252;
+pub const FIRST_DRAWN: u64 = 88172645463325252;
 
 // Tables of 4 to 6 rows, drawn by a fixed row of numbers. They are numbered behind the small ones.
 pub(crate) fn try_all_drawn(counts: Counts) -> Counts {

@@ -1,12 +1,15 @@
 // The independent second program. It decides small tables by trying everything and computes units, first crews and the order of absences by
 // a plain transcription of the rules, with code and a data layout of its own; of the libraries it takes the types and the questions, which it
 // asks, and compares. It prints how many comparisons of each kind it made and how many differ, which has to be none; then, of wrong replies that it
-// plants, how many the comparisons find, which has to be all. Of a kind that differs the first difference is shown.
+// plants, how many the comparisons find, which has to be all. Of a kind that differs the first difference is shown. The live roster is held against a
+// plain list in the same way.
+mod afternoon;
 mod brute;
 mod compare;
 mod family;
 mod filling;
 mod known;
+mod listed;
 mod order;
 mod persons;
 mod plain;
@@ -86,4 +89,5 @@ fn main() {
     show_all(counts);
     show_replies(counts);
     show_all_planted();
+    afternoon::show_all();
 }
