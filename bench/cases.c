@@ -1,4 +1,4 @@
-// Writes a case: cases SEED ROWS ROLES PERMISSIONS HELD POLICY AWAY CREWS SIZE TIMES. Each role holds each permission with HELD chances in 100,
+// Writes a case: cases SEED ROWS ROLES PERMISSIONS HELD POLICY AWAY CREWS SIZE EDITION TIMES. Each role holds each permission with HELD chances in 100,
 // and each row has one of the roles; ROLES 0 gives each row a role of its own. The generator is fixed, so a case is the same on every machine; HELD 100
 // gives equal rows. With SEED `hunt` it prints instead, for the seeds from 1 on, the verdict and the units, to pick hard ones by.
 #include "search.h"
@@ -22,9 +22,9 @@ static uint32_t role(uint32_t permissions, uint32_t held) {
 }
 
 static Case drawn(uint64_t seed, char **given) {
-    uint32_t number[9], roles[ROWS];
-    for (int i = 0; i < 9; i++) number[i] = (uint32_t)strtoul(given[i], 0, 10);
-    Case c = {.rows = number[0], .policy = number[4], .away = number[5], .crews = number[6], .size = number[7], .times = number[8]};
+    uint32_t number[10], roles[ROWS];
+    for (int i = 0; i < 10; i++) number[i] = (uint32_t)strtoul(given[i], 0, 10);
+    Case c = {.rows = number[0], .policy = number[4], .away = number[5], .crews = number[6], .size = number[7], .edition = number[8], .times = number[9]};
     c.task = number[2] == 32 ? ~0u : (1u << number[2]) - 1;
     c.allowance = ~0u;
     state = seed * 0x9e3779b97f4a7c15u;
@@ -34,7 +34,7 @@ static Case drawn(uint64_t seed, char **given) {
 }
 
 int main(int n, char **word) {
-    if (n != 11) return fprintf(stderr, "cases SEED ROWS ROLES PERMISSIONS HELD POLICY AWAY CREWS SIZE TIMES\n"), 2;
+    if (n != 12) return fprintf(stderr, "cases SEED ROWS ROLES PERMISSIONS HELD POLICY AWAY CREWS SIZE EDITION TIMES\n"), 2;
     if (strcmp(word[1], "hunt")) {
         Case c = drawn(strtoul(word[1], 0, 10), word + 2);
         return fwrite(&c, sizeof c, 1, stdout) != 1;

@@ -61,23 +61,31 @@ compare() { # BAR NAME WORDS...
         "$name" "${words[verdict]}" "$units" "${!#}" "$ours" "$c" $((ratio / 100)) $((ratio % 100)) "$bar"
 }
 
-# seed, rows, roles (0: each row its own), permissions, chance in 100 of holding each, policy question?, s, d, t, times
+# seed, rows, roles (0: each row its own), permissions, chance in 100 of holding each, policy question?, s, d, t, edition, times
 # Seed 126 is the worst known for half-filled crews that are handed on by value.
-compare 3 "filling, d 8, t 4, seed 4" 4 60 0 10 15 0 0 8 4 10
-compare 3 "filling, d 8, t 3, seed 33" 33 60 0 10 25 0 0 8 3 10
-compare 3 "filling, d 8, t 5, seed 126" 126 60 0 10 20 0 0 8 5 10
-compare 3 "filling, d 8, t 5, seed 40" 40 60 0 10 20 0 0 8 5 10
-compare 3 "filling, d 8, t 5, seed 113" 113 60 0 10 20 0 0 8 5 10
-compare 3 "filling, d 8, no limit, seed 368" 368 60 0 10 25 0 0 8 64 10
-compare 3 "filling, d 8, no limit, seed 107" 107 60 0 10 25 0 0 8 64 10
-compare 3 "policy, 64 equal rows, s 16, d 1" 1 64 0 10 100 1 16 1 64 10000
-compare 3 "policy, 60 rows, s 6, d 2, t 4" 3 60 0 10 25 1 6 2 4 10
-compare 3 "policy, 60 rows, s 7, d 2, t 4" 61 60 0 10 25 1 7 2 4 10
-compare 3 "policy, 60 rows, s 8, d 2" 4 60 0 10 45 1 8 2 64 10
+compare 3 "filling, d 8, t 4, seed 4" 4 60 0 10 15 0 0 8 4 1 10
+compare 3 "filling, d 8, t 3, seed 33" 33 60 0 10 25 0 0 8 3 1 10
+compare 3 "filling, d 8, t 5, seed 126" 126 60 0 10 20 0 0 8 5 1 10
+compare 3 "filling, d 8, t 5, seed 40" 40 60 0 10 20 0 0 8 5 1 10
+compare 3 "filling, d 8, t 5, seed 113" 113 60 0 10 20 0 0 8 5 1 10
+compare 3 "filling, d 8, no limit, seed 368" 368 60 0 10 25 0 0 8 64 1 10
+compare 3 "filling, d 8, no limit, seed 107" 107 60 0 10 25 0 0 8 64 1 10
+compare 3 "policy, 64 equal rows, s 16, d 1" 1 64 0 10 100 1 16 1 64 1 10000
+compare 3 "policy, 60 rows, s 6, d 2, t 4" 3 60 0 10 25 1 6 2 4 1 10
+compare 3 "policy, 60 rows, s 7, d 2, t 4" 61 60 0 10 25 1 7 2 4 1 10
+compare 3 "policy, 60 rows, s 8, d 2" 4 60 0 10 45 1 8 2 64 1 10
 # staff by role: few different holdings, many people with the same, and any number of them away
-compare 3 "policy, 40 rows of 7 roles, s 32" 86 40 7 8 45 1 32 1 64 40
-compare 3 "policy, 46 rows of 8 roles, s 64, t 4" 360 46 8 10 40 1 64 1 4 900
-compare 3 "policy, 48 rows of 3 roles, s 64, t 3" 390 48 3 6 60 1 64 1 3 600
-compare 3 "policy, 56 rows of 15 roles, s 32" 127 56 15 8 40 1 32 1 64 6
-compare 3 "policy, 62 rows of 11 roles, s 64, t 3" 78 62 11 9 50 1 64 1 3 6
-compare 3 "policy, 64 rows of 8 roles, s 64" 15 64 8 9 40 1 64 1 64 8
+compare 3 "policy, 40 rows of 7 roles, s 32" 86 40 7 8 45 1 32 1 64 1 40
+compare 3 "policy, 46 rows of 8 roles, s 64, t 4" 360 46 8 10 40 1 64 1 4 1 900
+compare 3 "policy, 48 rows of 3 roles, s 64, t 3" 390 48 3 6 60 1 64 1 3 1 600
+compare 3 "policy, 56 rows of 15 roles, s 32" 127 56 15 8 40 1 32 1 64 1 6
+compare 3 "policy, 62 rows of 11 roles, s 64, t 3" 78 62 11 9 50 1 64 1 3 1 6
+compare 3 "policy, 64 rows of 8 roles, s 64" 15 64 8 9 40 1 64 1 64 1 8
+# the second edition: crews of two at least, with companions for whoever covers alone; in the last two fillings and the last policy nobody does
+compare 3 "edition 2, 17 rows, d 8, t 2" 278 17 0 3 45 0 0 8 2 2 5
+compare 3 "edition 2, 16 rows, d 7, t 3" 165 16 0 5 40 0 0 7 3 2 5
+compare 3 "edition 2, filling, d 8, t 4, seed 4" 4 60 0 10 15 0 0 8 4 2 10
+compare 3 "edition 2, filling, d 8, t 5, seed 40" 40 60 0 10 20 0 0 8 5 2 10
+compare 3 "edition 2, policy, 64 equal rows, s 16" 1 64 0 10 100 1 16 1 64 2 10000
+compare 3 "edition 2, 46 rows of 8 roles, s 64" 310 46 8 4 50 1 64 1 2 2 60
+compare 3 "edition 2, policy, 60 rows, s 6, t 4" 3 60 0 10 25 1 6 2 4 2 10

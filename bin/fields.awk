@@ -5,8 +5,9 @@
 BEGIN {
     # The forms of a book by their first byte, which an old book does not have: the fields of a row and of a policy, each with its bytes.
     row["old"] = "staff:4 holdings:4"
-    row[200] = "staff:4 person:4 holdings:4"
+    row[200] = row[201] = "staff:4 person:4 holdings:4"
     policy["old"] = policy[200] = "task:4 s:1 d:1 t:1"
+    policy[201] = policy[200] " edition:1"
 
     # What each rule speaks of, and what it wants.
     rule(2, "task", "it has to ask for a permission")
@@ -22,6 +23,7 @@ BEGIN {
     rule(17, "policies", "it has to be at most 32")
     rule(18, "task", "the listed permissions go up to ALLOWED")
     rule(19, "more", "the book has to end here")
+    rule(25, "edition", "it has to be 1 or 2")
 
     called["permissions"] = "the number of permissions"
     called["rows"] = "the number of rows"
@@ -30,10 +32,12 @@ BEGIN {
     called["person"] = "the person number"
     called["holdings"] = "the holdings"
     called["task"] = "the task"
+    called["edition"] = "the edition"
 
     remark["s"] = "may be away"
     remark["d"] = "crews"
     remark["t"] = "to a crew"
+    remark["edition"] = "of the rule"
 }
 
 { for (i = 1; i <= NF; i++) byte[size++] = $i }

@@ -10,6 +10,7 @@ use lib.Pow.{pow-mono, ones-lt}
 use Rattle.sets.specs.Laws.Sums.{either}
 use Rattle.roster.specs.declared.Table.{Table}
 use Rattle.roster.specs.Limits.{rowLimit}
+use Rattle.roster.specs.Meaning.{leastMembers}
 use Rattle.crews.specs.declared.Ending.{Ending}
 use Rattle.crews.specs.declared.Ending.the-variants as ending
 use Rattle.crews.specs.declared.Filled.{Filled}
@@ -26,20 +27,21 @@ use Rattle.absences.proofs.Spent.{undecidedAt, walked-fits, walked-over
 
 -- filling from what is lent is 01's filling with A absent
 module _ (table : Table) (s : Search) (holds holders : List ℕ) (lent : Lent table s holds holders) where
-  fills : (free A : ℕ) → free ≡ bitAnd (s .everyone) ((2 ^ rowLimit - 1) - A)
-      → foundFrom (orderly (at holds) (at holders) (s .task) (s .crews) (s .size)) free ≡ filling table (s .task) (s .crews) (s .size) A
-  fills free A e =
-      ap₂ (λ (h k : List ℕ). foundFrom (orderly (at h) (at k) (s .task) (s .crews) (s .size)) free) (lent .held)
+  fills : (free A least : ℕ) → free ≡ bitAnd (s .everyone) ((2 ^ rowLimit - 1) - A) → least ≡ leastMembers (s .edition)
+      → foundFrom (orderly (at holds) (at holders) (s .task) (s .crews) (s .size) least) free ≡ filling table (s .task) (s .crews) (s .size) (s .edition) A
+  fills free A least e two =
+      ap (λ (m : ℕ). foundFrom (orderly (at holds) (at holders) (s .task) (s .crews) (s .size) m) free) two
+      ∙ ap₂ (λ (h k : List ℕ). foundFrom (orderly (at h) (at k) (s .task) (s .crews) (s .size) (leastMembers (s .edition))) free) (lent .held)
       (lent .holding ∙ ap (λ (h : List ℕ). tabulate 32 (holdersOf (at h))) (lent .held))
       ∙ ap (foundFrom _) (e ∙ ap (λ (all : ℕ). bitAnd all ((2 ^ rowLimit - 1) - A)) (lent .everyone))
-      ∙ lent-filling table (s .task) (s .crews) (s .size) A (lent .small) (lent .some) (lent .wide) (lent .few)
+      ∙ lent-filling table (s .task) (s .crews) (s .size) (s .edition) A (lent .small) (lent .some) (lent .wide) (lent .few)
 
   -- so what `fill` answers is what the definition says of A, if the units it began with are those spent before and what an absence costs
-  pub answered : (most spent n free A : ℕ) (r : Filled)
-      → r ≡ filledOf most n (foundFrom (orderly (at holds) (at holders) (s .task) (s .crews) (s .size)) free)
-      → free ≡ bitAnd (s .everyone) ((2 ^ rowLimit - 1) - A) → n ≡ spent + perAbsence
-      → r ≡ filledOf most (spent + perAbsence) (filling table (s .task) (s .crews) (s .size) A)
-  answered most spent n free A r e f paid = e ∙ ap₂ (filledOf most) paid (fills free A f)
+  pub answered : (most spent n free A least : ℕ) (r : Filled)
+      → r ≡ filledOf most n (foundFrom (orderly (at holds) (at holders) (s .task) (s .crews) (s .size) least) free)
+      → free ≡ bitAnd (s .everyone) ((2 ^ rowLimit - 1) - A) → least ≡ leastMembers (s .edition) → n ≡ spent + perAbsence
+      → r ≡ filledOf most (spent + perAbsence) (filling table (s .task) (s .crews) (s .size) (s .edition) A)
+  answered most spent n free A least r e f two paid = e ∙ ap₂ (filledOf most) paid (fills free A least f two)
 
   -- with nobody absent everyone is left
   pub nobody : s .everyone ≡ bitAnd (s .everyone) ((2 ^ rowLimit - 1) - 0)
@@ -48,23 +50,23 @@ module _ (table : Table) (s : Search) (holds holders : List ℕ) (lent : Lent ta
       sym (and-mask (s .everyone) 64 ∙ mod-eq-of-lt wide)
 
 -- whether it blocks or not
-alone-costs : (table : Table) (P d t A : ℕ) → weighed (filling table P d t) (A ∷ []) .need ≡ unitsOf (filling table P d t A)
-alone-costs table P d t A =
-    let n = unitsOf (filling table P d t A) in
+alone-costs : (table : Table) (P d t ed A : ℕ) → weighed (filling table P d t ed) (A ∷ []) .need ≡ unitsOf (filling table P d t ed A)
+alone-costs table P d t ed A =
+    let n = unitsOf (filling table P d t ed A) in
     ⊎-elim
-    (λ b. ap (λ (w : Found). w .need) (weighed-fits (filling table P d t) A [] b ∙ ap (dearer n) (weighed-none (filling table P d t))) ∙ add-zero n)
-    (λ b. ap (λ (w : Found). w .need) (weighed-blocks (filling table P d t) A [] b))
-    (either (filling table P d t A .found))
+    (λ b. ap (λ (w : Found). w .need) (weighed-fits (filling table P d t ed) A [] b ∙ ap (dearer n) (weighed-none (filling table P d t ed))) ∙ add-zero n)
+    (λ b. ap (λ (w : Found). w .need) (weighed-blocks (filling table P d t ed) A [] b))
+    (either (filling table P d t ed A .found))
 
-module _ (table : Table) (P d t most spent A : ℕ) (r : Filled) (e : r ≡ filledOf most (spent + perAbsence) (filling table P d t A)) where
+module _ (table : Table) (P d t ed most spent A : ℕ) (r : Filled) (e : r ≡ filledOf most (spent + perAbsence) (filling table P d t ed A)) where
   abbrev o : Outcome
-  o = filling table P d t A
+  o = filling table P d t ed A
 
   abbrev alone : Found
-  alone = weighed (filling table P d t) (A ∷ [])
+  alone = weighed (filling table P d t ed) (A ∷ [])
 
   alone-need : alone .need ≡ unitsOf o
-  alone-need = alone-costs table P d t A
+  alone-need = alone-costs table P d t ed A
 
   units : (spent + perAbsence) + o .need ≤ most → r .units ≡ spent + alone .need
   units h = ap (λ (x : Filled). x .units) (e ∙ steps.filled-fits most (spent + perAbsence) o h) ∙ omega (arith, alone-need)
@@ -85,15 +87,15 @@ module _ (table : Table) (P d t most spent A : ℕ) (r : Filled) (e : r ≡ fill
       go : steps.Judged most (spent + perAbsence) o r → walkedFrom (r .ending) A (r .units) ≡ walkedOf most spent alone
       go (steps.is-complete b w h) =
           told ending.Complete w
-          ∙ fits _ (weighed-fits (filling table P d t) A [] b ∙ ap (dearer (unitsOf o)) (weighed-none (filling table P d t))) h
-      go (steps.is-exhausted b w u l) = told ending.Exhausted w ∙ fits _ (weighed-blocks (filling table P d t) A [] b) (omega arith)
+          ∙ fits _ (weighed-fits (filling table P d t ed) A [] b ∙ ap (dearer (unitsOf o)) (weighed-none (filling table P d t ed))) h
+      go (steps.is-exhausted b w u l) = told ending.Exhausted w ∙ fits _ (weighed-blocks (filling table P d t ed) A [] b) (omega arith)
       go (steps.is-over h w) =
           told ending.Undecided w
           ∙ ap undecidedAt (ap (λ (x : Filled). x .units) (e ∙ steps.filled-over most (spent + perAbsence) o h))
           ∙ sym (walked-over most spent alone (omega (arith, alone-need)))
 
 -- too few units are left to try it
-pub absent-spent : (table : Table) (P d t most spent A : ℕ) → most < spent + perAbsence
-    → undecidedAt most ≡ walkedOf most spent (weighed (filling table P d t) (A ∷ []))
-absent-spent table P d t most spent A l =
-    sym (walked-over most spent (weighed (filling table P d t) (A ∷ [])) (omega (arith, alone-costs table P d t A)))
+pub absent-spent : (table : Table) (P d t ed most spent A : ℕ) → most < spent + perAbsence
+    → undecidedAt most ≡ walkedOf most spent (weighed (filling table P d t ed) (A ∷ []))
+absent-spent table P d t ed most spent A l =
+    sym (walked-over most spent (weighed (filling table P d t ed) (A ∷ [])) (omega (arith, alone-costs table P d t ed A)))

@@ -55,22 +55,22 @@ reply-told most w r crews e = go (judge most 0 w r e)
 
 -- the first absence tried is that of nobody, and `first` is what its filling says
 module _ (way : Way) (table : Table) (s : Search) (most : ℕ) (first : Filled)
-    (e : first ≡ filledOf (s .allowance) perAbsence (filling table (s .task) (s .crews) (s .size) 0)) (nobody : Walked)
+    (e : first ≡ filledOf (s .allowance) perAbsence (filling table (s .task) (s .crews) (s .size) (s .edition) 0)) (nobody : Walked)
     (f : nobody ≡ walkedFrom (first .ending) 0 (first .units)) where
   abbrev tries : List ℕ → Found
-  tries = weighed (filling table (s .task) (s .crews) (s .size))
+  tries = weighed (filling table (s .task) (s .crews) (s .size) (s .edition))
 
   abbrev rest : List ℕ
   rest = sizesTo way table (s .task) most
 
   abbrev crews : List ℕ
-  crews = filling table (s .task) (s .crews) (s .size) 0 .crews
+  crews = filling table (s .task) (s .crews) (s .size) (s .edition) 0 .crews
 
   alone : nobody ≡ walkedOf (s .allowance) 0 (tries (0 ∷ []))
-  alone = f ∙ absent-told table (s .task) (s .crews) (s .size) (s .allowance) 0 0 first e
+  alone = f ∙ absent-told table (s .task) (s .crews) (s .size) (s .edition) (s .allowance) 0 0 first e
 
   both : tries (0 ∷ rest) ≡ andThen (tries (0 ∷ [])) (tries rest)
-  both = weighed-append (filling table (s .task) (s .crews) (s .size)) (0 ∷ []) rest
+  both = weighed-append (filling table (s .task) (s .crews) (s .size) (s .edition)) (0 ∷ []) rest
 
   -- the reply from r, if r is what all absences come to
   whole : (r : Walked) → r ≡ walkedOf (s .allowance) 0 (andThen (tries (0 ∷ [])) (tries rest))
@@ -79,12 +79,12 @@ module _ (way : Way) (table : Table) (s : Search) (most : ℕ) (first : Filled)
 
   -- unless the allowance is spent the filling has the first list, or none
   crews-first : nobody .course ≢ Undecided → first .crews ≡ crews
-  crews-first n = go (steps.judge (s .allowance) perAbsence (filling table (s .task) (s .crews) (s .size) 0) first e)
+  crews-first n = go (steps.judge (s .allowance) perAbsence (filling table (s .task) (s .crews) (s .size) (s .edition) 0) first e)
     where
-      has : perAbsence + filling table (s .task) (s .crews) (s .size) 0 .need ≤ s .allowance → first .crews ≡ crews
-      has h = ap (λ (x : Filled). x .crews) (e ∙ steps.filled-fits (s .allowance) perAbsence (filling table (s .task) (s .crews) (s .size) 0) h)
+      has : perAbsence + filling table (s .task) (s .crews) (s .size) (s .edition) 0 .need ≤ s .allowance → first .crews ≡ crews
+      has h = ap (λ (x : Filled). x .crews) (e ∙ steps.filled-fits (s .allowance) perAbsence (filling table (s .task) (s .crews) (s .size) (s .edition) 0) h)
 
-      go : steps.Judged (s .allowance) perAbsence (filling table (s .task) (s .crews) (s .size) 0) first → first .crews ≡ crews
+      go : steps.Judged (s .allowance) perAbsence (filling table (s .task) (s .crews) (s .size) (s .edition) 0) first → first .crews ≡ crews
       go (steps.is-complete b w h) = has h
       go (steps.is-exhausted b w u l) = has (omega arith)
       go (steps.is-over h w) = absurd (n (ap Walked.course f ∙ ap (λ (z : Ending). walkedFrom z 0 (first .units) .course) w))
@@ -114,8 +114,8 @@ module _ (way : Way) (table : Table) (s : Search) (most : ℕ) (first : Filled)
       spent Undecided = inl refl
 
 -- the definition's reply, by the ruling
-pub ruled : (way : Way) (table : Table) (P away d t allowance : ℕ) (x : Ruling) → policyRuling (table .rows) P away d t ≡ x
-    → policyReplyOf way table P away d t allowance ≡ repliedBy x (found way table P away d t) (firstList table P d t 0) allowance
+pub ruled : (way : Way) (table : Table) (P away d t ed allowance : ℕ) (x : Ruling) → policyRuling (table .rows) P away d t ed ≡ x
+    → policyReplyOf way table P away d t ed allowance ≡ repliedBy x (found way table P away d t ed) (firstList table P d t ed 0) allowance
 unfolding policyReplyOf
-ruled way table P away d t allowance x e =
-    ap (λ (y : Ruling). repliedBy y (found way table P away d t) (firstList table P d t 0) allowance) e
+ruled way table P away d t ed allowance x e =
+    ap (λ (y : Ruling). repliedBy y (found way table P away d t ed) (firstList table P d t ed 0) allowance) e

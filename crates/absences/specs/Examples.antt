@@ -16,10 +16,10 @@ use Rattle.roster.specs.declared.Refusal.{Refusal}
 use Rattle.roster.specs.declared.Verdict.the-variants.{Yes, No, Undecided, Crews, None, Refused}
 use Rattle.roster.specs.declared.Reply.{Reply}
 use Rattle.roster.specs.Limits.{rowLimit, crewLimit}
-use Rattle.roster.specs.Meaning.{outweighsb, ahead, rank}
+use Rattle.roster.specs.Meaning.{leastMembers, outweighsb, ahead, rank}
 use Rattle.roster.specs.Refusals.{policyRuling, namedRuling}
 use Rattle.roster.specs.Replies.{noCrews}
-use Rattle.crews.specs.Filling.{placeOf, closeOf, placedOf, candidates, tryEach, search}
+use Rattle.crews.specs.Filling.{placeOf, closeOf, closesOf, placedOf, poolOf, candidates, tryEach, search}
 use Rattle.crews.specs.Named.{NamedReply, namedReplyOf}
 use Rattle.crews.specs.Laws.Allowed.{named-allowed}
 use Rattle.absences.specs.Tried.{rowFrom, Way, full, skipping, joins, listed, sizesFrom, weighed}
@@ -29,11 +29,11 @@ use Rattle.absences.specs.Laws.Demands.{policy-allowed}
 
 -- ---- how the table is written
 
--- A question of either kind: "H; 1,2,2 skipping" is `policy skipping H 3 1 2 2`, and "H, absent {0}, d 2, t 2" is `named H 3 2 2` and that set;
--- the allowance follows.
+-- A question of either kind: "H; 1,2,2 skipping" is `policy skipping H 3 1 2 2 1`, and "H, absent {0}, d 2, t 2" is `named H 3 2 2 1` and that
+-- set. The edition stands behind t, and the allowance comes last.
 pub data Question : Type 0 where
-  policy : Way → (table : Table) (P s d t allowance : ℕ) → Question
-  named : (table : Table) (P d t A allowance : ℕ) → Question
+  policy : Way → (table : Table) (P s d t ed allowance : ℕ) → Question
+  named : (table : Table) (P d t ed A allowance : ℕ) → Question
 
 pub record Example : Type 0 where
   pub question : Question
@@ -89,48 +89,48 @@ M = tableOf (7 ∷ 25 ∷ 42 ∷ 52 ∷ [])
 abbrev pub by-either : Way → List Example
 by-either way =
     -- f
-    record { question = policy way H 3 0 3 2 ample; reply = yes-with ((0 ∷ []) ∷ (1 ∷ 2 ∷ []) ∷ (3 ∷ []) ∷ []) 5 }
+    record { question = policy way H 3 0 3 2 1 ample; reply = yes-with ((0 ∷ []) ∷ (1 ∷ 2 ∷ []) ∷ (3 ∷ []) ∷ []) 5 }
     -- g
-    ∷ record { question = policy way M 63 1 1 3 ample; reply = yes-with ((0 ∷ 1 ∷ 2 ∷ []) ∷ []) 20 }
+    ∷ record { question = policy way M 63 1 1 3 1 ample; reply = yes-with ((0 ∷ 1 ∷ 2 ∷ []) ∷ []) 20 }
     -- h
-    ∷ record { question = policy way M 63 2 1 3 ample; reply = no-with (0 ∷ 1 ∷ []) 21 }
+    ∷ record { question = policy way M 63 2 1 3 1 ample; reply = no-with (0 ∷ 1 ∷ []) 21 }
     -- i
-    ∷ record { question = policy way M 63 0 1 2 ample; reply = no-with [] 7 }
+    ∷ record { question = policy way M 63 0 1 2 1 ample; reply = no-with [] 7 }
     -- j: "no rows, P = 1"
-    ∷ record { question = policy way (tableOf []) 1 5 1 1 ample; reply = no-with [] 1 }
+    ∷ record { question = policy way (tableOf []) 1 5 1 1 1 ample; reply = no-with [] 1 }
     -- k: "one row 1, P = 1"
-    ∷ record { question = policy way (tableOf (1 ∷ [])) 1 64 1 1 ample; reply = no-with (0 ∷ []) 3 }
+    ∷ record { question = policy way (tableOf (1 ∷ [])) 1 64 1 1 1 ample; reply = no-with (0 ∷ []) 3 }
     ∷ []
 
 -- rows l and m
 abbrev pub by-name : List Example
 by-name =
     -- l
-    record { question = named H 3 2 2 (setOfRows (0 ∷ [])) ample; reply = crews-with ((1 ∷ 2 ∷ []) ∷ (3 ∷ []) ∷ []) 3 }
+    record { question = named H 3 2 2 1 (setOfRows (0 ∷ [])) ample; reply = crews-with ((1 ∷ 2 ∷ []) ∷ (3 ∷ []) ∷ []) 3 }
     -- m
-    ∷ record { question = named H 3 2 2 (setOfRows (0 ∷ 3 ∷ [])) ample; reply = none-with 2 }
+    ∷ record { question = named H 3 2 2 1 (setOfRows (0 ∷ 3 ∷ [])) ample; reply = none-with 2 }
     ∷ []
 
 abbrev pub examples : List Example
 examples =
     -- a
-    record { question = policy skipping H 3 1 2 2 ample; reply = yes-with ((0 ∷ []) ∷ (1 ∷ 2 ∷ []) ∷ []) 8 }
+    record { question = policy skipping H 3 1 2 2 1 ample; reply = yes-with ((0 ∷ []) ∷ (1 ∷ 2 ∷ []) ∷ []) 8 }
     -- b
-    ∷ record { question = policy full H 3 1 2 2 ample; reply = yes-with ((0 ∷ []) ∷ (1 ∷ 2 ∷ []) ∷ []) 19 }
+    ∷ record { question = policy full H 3 1 2 2 1 ample; reply = yes-with ((0 ∷ []) ∷ (1 ∷ 2 ∷ []) ∷ []) 19 }
     -- c
-    ∷ record { question = policy skipping H 3 2 2 2 ample; reply = no-with (0 ∷ 3 ∷ []) 11 }
+    ∷ record { question = policy skipping H 3 2 2 2 1 ample; reply = no-with (0 ∷ 3 ∷ []) 11 }
     -- d
-    ∷ record { question = policy full H 3 2 2 2 ample; reply = no-with (0 ∷ 3 ∷ []) 22 }
+    ∷ record { question = policy full H 3 2 2 2 1 ample; reply = no-with (0 ∷ 3 ∷ []) 22 }
     -- e: "c with allowance 10"
-    ∷ record { question = policy skipping H 3 2 2 2 10; reply = undecided-with 10 }
+    ∷ record { question = policy skipping H 3 2 2 2 1 10; reply = undecided-with 10 }
     ∷ (by-either skipping ++ by-either full ++ by-name)
 
 -- ---- the fact
 
 -- the contract of the question allows this reply
 abbrev pub Allowed : Question → Reply → Type 0
-Allowed (policy way table P s d t allowance) r = PolicyReply way table P s d t allowance r
-Allowed (named table P d t A allowance) r = NamedReply table P d t A allowance r
+Allowed (policy way table P s d t ed allowance) r = PolicyReply way table P s d t ed allowance r
+Allowed (named table P d t ed A allowance) r = NamedReply table P d t ed A allowance r
 
 abbrev pub AllAllowed : List Example → Type 0
 AllAllowed [] = Unit {0}
@@ -138,16 +138,16 @@ AllAllowed (e ∷ rest) = Allowed (e .question) (e .reply) × AllAllowed rest
 
 -- what the definition replies, and whether the task has 32 bits
 abbrev pub replyOf : Question → Reply
-replyOf (policy way table P s d t allowance) = policyReplyOf way table P s d t allowance
-replyOf (named table P d t A allowance) = namedReplyOf table P d t A allowance
+replyOf (policy way table P s d t ed allowance) = policyReplyOf way table P s d t ed allowance
+replyOf (named table P d t ed A allowance) = namedReplyOf table P d t ed A allowance
 
 abbrev pub narrow : Question → Bool
-narrow (policy way table P s d t allowance) = ltb P (2 ^ 32)
-narrow (named table P d t A allowance) = ltb P (2 ^ 32)
+narrow (policy way table P s d t ed allowance) = ltb P (2 ^ 32)
+narrow (named table P d t ed A allowance) = ltb P (2 ^ 32)
 
 allowed : (q : Question) → narrow q ≡ true → Allowed q (replyOf q)
-allowed (policy way table P s d t allowance) w = policy-allowed way table P s d t (ltb-true P (2 ^ 32) w) allowance
-allowed (named table P d t A allowance) w = named-allowed table P d t A allowance (ltb-true P (2 ^ 32) w)
+allowed (policy way table P s d t ed allowance) w = policy-allowed way table P s d t ed (ltb-true P (2 ^ 32) w) allowance
+allowed (named table P d t ed A allowance) w = named-allowed table P d t ed A allowance (ltb-true P (2 ^ 32) w)
 
 -- where the definition gives the replies of a list, they are allowed
 pub all-allowed : (l : List Example)
@@ -161,5 +161,5 @@ all-allowed (e ∷ rest) w r =
 
 -- each reply of the table is the one allowed
 pub examples-hold : AllAllowed examples
-unfolding bit sumTo toN cons? members filter hasb setOf ones onesIn trailingZeros ahead rank outweighsb placeOf closeOf placedOf candidates tryEach search rowFrom joins listed sizesFrom weighed policyRuling namedRuling policyReplyOf
+unfolding bit sumTo toN cons? members filter hasb setOf ones onesIn trailingZeros ahead rank outweighsb leastMembers placeOf closeOf closesOf placedOf poolOf candidates tryEach search rowFrom joins listed sizesFrom weighed policyRuling namedRuling policyReplyOf
 examples-hold = all-allowed examples refl refl

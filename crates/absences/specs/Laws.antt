@@ -13,3 +13,5 @@ pub mod Demands
 pub mod Before
 pub mod InOrder
 pub mod Same
+-- what a reply under one edition tells of the other
+pub mod Editions

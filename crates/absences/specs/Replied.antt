@@ -30,6 +30,6 @@ abbrev pub repliedBy : Ruling → Found → List ℕ → ℕ → Reply
 repliedBy (ruling.Refused refusal) w crews allowance = replyWith noCrews 0 0 allowance (Refused refusal)
 repliedBy ruling.Admitted w crews allowance = replyWith crews (w .blocker) (w .need) allowance (verdictOf w allowance)
 
-unfoldable pub policyReplyOf : Way → Table → ℕ → ℕ → ℕ → ℕ → ℕ → Reply
-policyReplyOf way table P s d t allowance =
-    repliedBy (policyRuling (table .rows) P s d t) (found way table P s d t) (firstList table P d t 0) allowance
+unfoldable pub policyReplyOf : Way → Table → ℕ → ℕ → ℕ → ℕ → ℕ → ℕ → Reply
+policyReplyOf way table P s d t ed allowance =
+    repliedBy (policyRuling (table .rows) P s d t ed) (found way table P s d t ed) (firstList table P d t ed 0) allowance

@@ -13,7 +13,7 @@ use Rattle.book.specs.Reading.{number, fieldsAt, entryAt, prior, notAbov
 use Rattle.book.specs.Laws.First.{not-faulty, first-append}
 use Rattle.book.specs.Inner.Steps.{leadIn, staysIn, outIn, countIn, lookIn, widthIn, stepFrom, pastEntry, startAt, looksIn, pastIn, stepIn}
 use Rattle.book.specs.declared.Form.{Form}
-use Rattle.book.specs.declared.Form.the-variants.{Old, Persons}
+use Rattle.book.specs.declared.Form.the-variants.{Old, Persons, Editions}
 use Rattle.book.specs.declared.Fault.{Fault}
 use Rattle.book.specs.declared.Section.{Section}
 use Rattle.book.specs.declared.Section.the-variants.{Permissions, Rows, Policies}
@@ -51,6 +51,7 @@ staff-here : (form : Form) (book : List ℕ) (at : ℕ) → number 4 book at ≡
 unfolding fieldsAt
 staff-here Old book at = refl
 staff-here Persons book at = refl
+staff-here Editions book at = refl
 
 staff-before : (form : Form) (book : List ℕ) (before : Before) → prior (number 4 book) before ≡ staffOf (prior (entryAt (rowsOf form) book) before)
 staff-before form book Nothing = refl

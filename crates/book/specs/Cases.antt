@@ -10,18 +10,19 @@ use Rattle.roster.specs.declared.Policy.{Policy}
 use Rattle.book.specs.Layout.{Contents, bytesOf, joined, fieldBytes, littleEndian}
 use Rattle.book.specs.Faults.{faultNumber}
 use Rattle.book.specs.Reading.{number, fieldsAt, cutPlace, countLook, entryLook, inTurn, sectionLooks, past, formOf, firstFault, readOf}
-use Rattle.book.specs.declared.Form.the-variants.{Old, Persons}
+use Rattle.book.specs.declared.Form.the-variants.{Old, Persons, Editions}
+use Rattle.book.specs.declared.Row.{Row}
 use Rattle.book.specs.declared.Reading.{Reading}
 use Rattle.book.specs.declared.Reading.the-variants as read
 
 -- ---- book B
 
--- "codes 10, 20; staff 101, 102, 103, 104 with holdings 3, 1, 2, 3; policies (3; 1,2,2), (3; 2,2,2), (3; 0,3,1)"
-abbrev pub policiesB : List Policy
-policiesB =
-    record { task = 3; away = 1; crews = 2; size = 2 }
-    ∷ record { task = 3; away = 2; crews = 2; size = 2 }
-    ∷ record { task = 3; away = 0; crews = 3; size = 1 }
+-- "codes 10, 20; staff 101, 102, 103, 104 with holdings 3, 1, 2, 3; policies (3; 1,2,2), (3; 2,2,2), (3; 0,3,1)"; of these editions
+abbrev pub policiesB : ℕ → ℕ → ℕ → List Policy
+policiesB first second third =
+    record { task = 3; away = 1; crews = 2; size = 2; edition = first }
+    ∷ record { task = 3; away = 2; crews = 2; size = 2; edition = second }
+    ∷ record { task = 3; away = 0; crews = 3; size = 1; edition = third }
     ∷ []
 
 abbrev pub valuesB : Contents
@@ -34,7 +35,7 @@ valuesB = record {
       ∷ record { staff = 103; person = 103; holdings = 2 }
       ∷ record { staff = 104; person = 104; holdings = 3 }
       ∷ [];
-  policies = policiesB;
+  policies = policiesB 1 1 1;
 }
 
 -- the bytes of the file
@@ -55,17 +56,20 @@ b-long = refl
 
 -- ---- the same staff as a new book, where 102 and 103 are accounts of one person
 
+abbrev pub rowsNewB : List Row
+rowsNewB =
+    record { staff = 101; person = 7; holdings = 3 }
+    ∷ record { staff = 102; person = 8; holdings = 1 }
+    ∷ record { staff = 103; person = 8; holdings = 2 }
+    ∷ record { staff = 104; person = 9; holdings = 3 }
+    ∷ []
+
 abbrev pub valuesNewB : Contents
 valuesNewB = record {
   form = Persons;
   codes = 10 ∷ 20 ∷ [];
-  rows =
-      record { staff = 101; person = 7; holdings = 3 }
-      ∷ record { staff = 102; person = 8; holdings = 1 }
-      ∷ record { staff = 103; person = 8; holdings = 2 }
-      ∷ record { staff = 104; person = 9; holdings = 3 }
-      ∷ [];
-  policies = policiesB;
+  rows = rowsNewB;
+  policies = policiesB 1 1 1;
 }
 
 abbrev pub newB : List ℕ
@@ -81,6 +85,30 @@ new-b-bytes = refl
 
 pub new-b-long : length newB ≡ 77
 new-b-long = refl
+
+-- ---- and with editions: the first policy of the first, the others of the second
+
+abbrev pub valuesEditionsB : Contents
+valuesEditionsB = record {
+  form = Editions;
+  codes = 10 ∷ 20 ∷ [];
+  rows = rowsNewB;
+  policies = policiesB 1 2 2;
+}
+
+abbrev pub editionsB : List ℕ
+editionsB =
+    201 ∷ 2 ∷ 10 ∷ 0 ∷ 20 ∷ 0
+    ∷ 4 ∷ 101 ∷ 0 ∷ 0 ∷ 0 ∷ 7 ∷ 0 ∷ 0 ∷ 0 ∷ 3 ∷ 0 ∷ 0 ∷ 0 ∷ 102 ∷ 0 ∷ 0 ∷ 0 ∷ 8 ∷ 0 ∷ 0 ∷ 0 ∷ 1 ∷ 0 ∷ 0 ∷ 0
+    ∷ 103 ∷ 0 ∷ 0 ∷ 0 ∷ 8 ∷ 0 ∷ 0 ∷ 0 ∷ 2 ∷ 0 ∷ 0 ∷ 0 ∷ 104 ∷ 0 ∷ 0 ∷ 0 ∷ 9 ∷ 0 ∷ 0 ∷ 0 ∷ 3 ∷ 0 ∷ 0 ∷ 0
+    ∷ 3 ∷ 3 ∷ 0 ∷ 0 ∷ 0 ∷ 1 ∷ 2 ∷ 2 ∷ 1 ∷ 3 ∷ 0 ∷ 0 ∷ 0 ∷ 2 ∷ 2 ∷ 2 ∷ 2 ∷ 3 ∷ 0 ∷ 0 ∷ 0 ∷ 0 ∷ 3 ∷ 1 ∷ 2 ∷ []
+
+pub editions-b-bytes : bytesOf valuesEditionsB ≡ editionsB
+unfolding bytesOf joined fieldBytes littleEndian
+editions-b-bytes = refl
+
+pub editions-b-long : length editionsB ≡ 80
+editions-b-long = refl
 
 -- ---- how the table is written
 
@@ -125,7 +153,6 @@ countCases =
     ∷ (0 ∷ [], bad 12 0)
     ∷ (33 ∷ [], bad 12 0)
     ∷ (199 ∷ [], bad 12 0)
-    ∷ (201 ∷ [], bad 12 0)
     ∷ (202 ∷ [], bad 12 0)
     ∷ (255 ∷ [], bad 12 0)
     -- the least book: one permission, nobody, nothing asked
@@ -347,8 +374,41 @@ newCases =
     ∷ (take 76 newB, bad 11 76)
     ∷ []
 
+-- books with editions: the leading byte by itself, and book B with one, with a byte changed, with two faults, cut, and with one byte more
+abbrev pub editionCases : List (List ℕ × Outcome)
+editionCases =
+    (201 ∷ [], bad 11 1)
+    ∷ (201 ∷ 0 ∷ [], bad 12 1)
+    ∷ (201 ∷ 201 ∷ [], bad 12 1)
+    ∷ (201 ∷ 1 ∷ 0 ∷ 0 ∷ 0 ∷ 0 ∷ [], good 4 5)
+    ∷ (editionsB, good 6 55)
+    ∷ (editionsB ++ (0 ∷ []), bad 19 80)
+    ∷ (set editionsB 63 0, bad 25 63)
+    ∷ (set editionsB 63 2, good 6 55)
+    ∷ (set editionsB 63 3, bad 25 63)
+    ∷ (set editionsB 63 255, bad 25 63)
+    ∷ (set editionsB 79 3, bad 25 79)
+    ∷ (set (set editionsB 62 0) 63 0, bad 5 62)
+    ∷ (set (set editionsB 61 9) 63 3, bad 4 61)
+    ∷ (set (set editionsB 56 4) 63 3, bad 18 56)
+    -- before the next policy
+    ∷ (set (set editionsB 63 3) 64 4, bad 25 63)
+    ∷ (set (set editionsB 70 0) 71 3, bad 5 70)
+    ∷ (set editionsB 19 101, bad 15 19)
+    ∷ (set editionsB 27 4, bad 16 27)
+    ∷ (set editionsB 55 33, bad 17 55)
+    ∷ (take 56 editionsB, bad 11 56)
+    ∷ (take 62 editionsB, bad 11 62)
+    ∷ (take 63 editionsB, bad 11 63)
+    ∷ (take 63 (set editionsB 62 0), bad 11 63)
+    ∷ (take 64 editionsB, bad 11 64)
+    ∷ (take 79 editionsB, bad 11 79)
+    -- the same bytes as a book with persons, whose policies have no edition
+    ∷ (set editionsB 0 200, bad 18 63)
+    ∷ []
+
 abbrev pub cases : List (List ℕ × Outcome)
-cases = countCases ++ codeCases ++ rowCases ++ policyCases ++ faultsTogether ++ faultsApart ++ cutCases ++ casesOfB ++ newCases
+cases = countCases ++ codeCases ++ rowCases ++ policyCases ++ faultsTogether ++ faultsApart ++ cutCases ++ casesOfB ++ newCases ++ editionCases
 
 -- ---- the fact
 

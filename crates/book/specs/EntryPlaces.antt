@@ -7,7 +7,7 @@ use Prim.Native.Nat.{ℕ, _+_, _≤_}
 use lib.Dec.{ltb}
 use lib.ListN.{length}
 use Rattle.book.specs.Faults.{faultNumber}
-use Rattle.book.specs.Reading.{Kind, faultIf, codes, rowsOf, policies, width, entryAt, prior, countLook, inTurn, countAt, past, formOf, listedIn, endLook, firstFault, startsOf}
+use Rattle.book.specs.Reading.{Kind, faultIf, codes, rowsOf, policiesOf, width, entryAt, prior, countLook, inTurn, countAt, past, formOf, listedIn, endLook, firstFault, startsOf}
 use Rattle.book.specs.declared.Fault.the-variants as fault
 use Rattle.book.specs.declared.Amiss.{Amiss}
 use Rattle.book.specs.declared.Amiss.the-variants as amiss
@@ -40,8 +40,8 @@ readWas book =
     firstFault Refused (Good s)
     (sectionWas codes book 0 (s .permissions)
     ++ (sectionWas (rowsOf form) book listed (s .rows)
-    ++ (sectionWas policies book listed (s .policies)
-    ++ (endLook book (past policies book (s .policies)) ∷ []))))
+    ++ (sectionWas (policiesOf form) book listed (s .policies)
+    ++ (endLook book (past (policiesOf form) book (s .policies)) ∷ []))))
 
 -- the numbers whose field starts where its count or entry does: 2, 12 to 15 and 17 to 19
 abbrev pub PlaceStays : ℕ → Type 0

@@ -6,7 +6,7 @@ use mathlib.Core.List.{List, [], _∷_}
 use Prim.Native.Nat.{ℕ, suc, _+_, _*_, _≤_, _<_}
 use lib.ListN.{length}
 use Rattle.book.specs.Layout.{hasPersons}
-use Rattle.book.specs.Reading.{Kind, fieldPlace, holdingsField, fieldOf, codes, rowsOf, policies, width, countAt, past, startsOf}
+use Rattle.book.specs.Reading.{Kind, fieldPlace, holdingsField, fieldOf, codes, rowsOf, policiesOf, width, countAt, past, startsOf}
 use Rattle.book.specs.declared.Form.{Form}
 use Rattle.book.specs.declared.Fault.{Fault}
 use Rattle.book.specs.declared.Fault.the-variants.{Short, Permissions, Code, Rows, Staff, Holdings, Policies, Task, Policy, Excess}
@@ -39,13 +39,13 @@ CutSection kind book start at =
 abbrev pub Points : Form → List ℕ → Fault → ℕ → Type 0
 Points form book Short at =
     CutSection codes book (startsOf form book .permissions) at
-    ⊎ (CutSection (rowsOf form) book (startsOf form book .rows) at ⊎ CutSection policies book (startsOf form book .policies) at)
+    ⊎ (CutSection (rowsOf form) book (startsOf form book .rows) at ⊎ CutSection (policiesOf form) book (startsOf form book .policies) at)
 Points form book Permissions at = at ≡ startsOf form book .permissions
 Points form book Code at = FieldIn codes book (startsOf form book .permissions) 0 at
 Points form book Rows at = at ≡ startsOf form book .rows
 Points form book Staff at = FieldIn (rowsOf form) book (startsOf form book .rows) 0 at
 Points form book Holdings at = FieldIn (rowsOf form) book (startsOf form book .rows) (holdingsField (hasPersons form)) at
 Points form book Policies at = at ≡ startsOf form book .policies
-Points form book Task at = FieldIn policies book (startsOf form book .policies) 0 at
-Points form book (Policy refusal) at = FieldIn policies book (startsOf form book .policies) (fieldOf refusal) at
-Points form book Excess at = at ≡ past policies book (startsOf form book .policies)
+Points form book Task at = FieldIn (policiesOf form) book (startsOf form book .policies) 0 at
+Points form book (Policy refusal) at = FieldIn (policiesOf form) book (startsOf form book .policies) (fieldOf refusal) at
+Points form book Excess at = at ≡ past (policiesOf form) book (startsOf form book .policies)

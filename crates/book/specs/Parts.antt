@@ -14,7 +14,7 @@ use Rattle.roster.specs.declared.Made.the-variants as variants
 use Rattle.roster.specs.declared.Policy.{Policy}
 use Rattle.accounts.specs.declared.Accounts.{Accounts}
 use Rattle.book.specs.Layout.{Contents}
-use Rattle.book.specs.Reading.{Kind, codes, rowsOf, policies, width, entryAt, countAt, past, formOf, front, readOf}
+use Rattle.book.specs.Reading.{Kind, codes, rowsOf, policiesOf, width, entryAt, countAt, past, formOf, front, readOf}
 use Rattle.book.specs.declared.Form.{Form}
 use Rattle.book.specs.declared.Reading.{Reading}
 use Rattle.book.specs.declared.Reading.the-variants.{Good, Refused}
@@ -49,7 +49,7 @@ contentsBy form book =
       form = form;
       codes = valuesAt codes book (front form);
       rows = valuesAt (rowsOf form) book rowsAt;
-      policies = valuesAt policies book (past (rowsOf form) book rowsAt);
+      policies = valuesAt (policiesOf form) book (past (rowsOf form) book rowsAt);
     }
 
 abbrev pub contentsOf : List ℕ → Contents
@@ -136,12 +136,15 @@ listedBy (variants.Policy p) = listed.Policy p
 listedBy (variants.Refused refusal) = listed.NoSuchPolicy
 
 abbrev pub policyFrom : List ℕ → Place → Listed
-policyFrom book (place.At at) = listedBy (made (entryAt policies book at))
+policyFrom book (place.At at) = listedBy (made (entryAt (policiesOf (formOf book)) book at))
 policyFrom book place.Nothing = listed.NoSuchPolicy
 
--- the i-th policy of the section that starts here
+-- the i-th policy of the section that starts here: where it stands, and what it is
+abbrev pub policyPlace : List ℕ → ℕ → ℕ → Place
+policyPlace book start i = placeOf (width (policiesOf (formOf book))) book start i
+
 abbrev pub policyIn : List ℕ → ℕ → ℕ → Listed
-policyIn book start i = policyFrom book (placeOf (width policies) book start i)
+policyIn book start i = policyFrom book (policyPlace book start i)
 
 unfoldable pub policyAt : List ℕ → ℕ → Listed
 policyAt book i = policyIn book (startsIn book .policies) i

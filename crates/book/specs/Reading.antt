@@ -14,9 +14,9 @@ use Rattle.roster.specs.declared.Made.the-variants as variants
 use Rattle.roster.specs.declared.Policy.{Policy}
 use Rattle.roster.specs.declared.Refusal.{Refusal}
 use Rattle.roster.specs.declared.Refusal.the-variants as refusal
-use Rattle.book.specs.Layout.{codeWidths, rowWidths, policyWidths, hasPersons, permissionLimit, policyLimit}
+use Rattle.book.specs.Layout.{codeWidths, rowWidths, policyWidths, hasPersons, hasEditions, permissionLimit, policyLimit}
 use Rattle.book.specs.declared.Form.{Form}
-use Rattle.book.specs.declared.Form.the-variants.{Old, Persons}
+use Rattle.book.specs.declared.Form.the-variants.{Old, Persons, Editions}
 use Rattle.book.specs.declared.Row.{Row}
 use Rattle.book.specs.declared.Fault.{Fault}
 use Rattle.book.specs.declared.Fault.the-variants as fault
@@ -122,7 +122,7 @@ rows persons = record {
   faults = λ listed before row. rowAmiss persons (notAbove (staffOf before) (row .staff)) (pastListed listed (row .holdings));
 }
 
--- the field that a policy's own refusal speaks of: P, s, d or t. (1 and 6 are of questions: no policy by itself is refused so.)
+-- the field that a policy's own refusal speaks of: P, s, d, t or the edition. (1 and 6 are of questions: no policy by itself is refused so.)
 abbrev pub fieldOf : Refusal → ℕ
 fieldOf refusal.Rows = 0
 fieldOf refusal.Task = 0
@@ -130,16 +130,27 @@ fieldOf refusal.Away = 1
 fieldOf refusal.Crews = 2
 fieldOf refusal.Size = 3
 fieldOf refusal.Absence = 0
+fieldOf refusal.Edition = 4
 
 abbrev pub byMade : Made → Amiss
 byMade (variants.Policy p) = amiss.Nothing
 byMade (variants.Refused r) = amiss.Field (fault.Policy r) (fieldOf r)
 
--- "**17** policies above 32"; "for a policy **18** P past the listed permissions, then 2, 3, 4, 5 as above"
-abbrev pub policies : Kind Policy
-policies = record {
-  widths = policyWidths;
-  value = λ f. record { task = getD f 0 0; away = getD f 1 0; crews = getD f 2 0; size = getD f 3 0 };
+-- "older books are edition 1"
+abbrev pub editionWith : Bool → List ℕ → ℕ
+editionWith false f = 1
+editionWith true f = getD f 4 0
+
+-- the policy that these fields are
+abbrev pub policyWith : Bool → List ℕ → Policy
+policyWith editions f = record { task = getD f 0 0; away = getD f 1 0; crews = getD f 2 0; size = getD f 3 0; edition = editionWith editions f }
+
+-- "**17** policies above 32"; "for a policy **18** P past the listed permissions, then 2, 3, 4, 5 as above"; "25, edition other than 1 or 2,
+-- after 5"
+abbrev pub policies : Bool → Kind Policy
+policies editions = record {
+  widths = policyWidths editions;
+  value = policyWith editions;
   outOfRange = ltb policyLimit;
   countFault = fault.Policies;
   faults = λ listed before p.
@@ -206,22 +217,27 @@ past kind book at = at + 1 + width kind * countAt book at
 
 -- ---- the book
 
--- "A new book has a leading byte 200 before the permission count; an old one .. can't start so"
-abbrev pub formBy : Bool → Form
-formBy true = Persons
-formBy false = Old
+-- "A new book has a leading byte 200 before the permission count; an old one .. can't start so"; "books with a leading 201"
+abbrev pub formBy : Bool → Bool → Form
+formBy true editions = Persons
+formBy false true = Editions
+formBy false false = Old
 
 unfoldable pub formOf : List ℕ → Form
-formOf book = formBy (eqb (getD book 0 0) 200)
+formOf book = formBy (eqb (getD book 0 0) 200) (eqb (getD book 0 0) 201)
 
 -- where the permissions start
 abbrev pub front : Form → ℕ
 front Old = 0
 front Persons = 1
+front Editions = 1
 
--- the rows of a book of this form
+-- the rows and the policies of a book of this form
 abbrev pub rowsOf : Form → Kind Row
 rowsOf form = rows (hasPersons form)
+
+abbrev pub policiesOf : Form → Kind Policy
+policiesOf form = policies (hasEditions form)
 
 -- the number of listed permissions
 abbrev pub listedIn : Form → List ℕ → ℕ
@@ -233,7 +249,8 @@ endLook book at = faultIf (ltb at (length book)) fault.Excess at Sound
 
 -- all that is looked at, in the order of the bytes: from the policies on, from the rows on, from the front
 abbrev pub looksFromPolicies : Form → List ℕ → ℕ → List Look
-looksFromPolicies form book at = sectionLooks policies book (listedIn form book) at ++ (endLook book (past policies book at) ∷ [])
+looksFromPolicies form book at =
+    sectionLooks (policiesOf form) book (listedIn form book) at ++ (endLook book (past (policiesOf form) book at) ∷ [])
 
 abbrev pub looksFromRows : Form → List ℕ → ℕ → List Look
 looksFromRows form book at =

@@ -1,6 +1,6 @@
 // The roster book: the bytes by which a site hands over its permissions, its rows and its policies. `read` says of every byte string
 // whether it is a good book or what its first fault is; the functions after it hand out a good book's parts. specs/Layout says what a book
-// is, specs/Reading what is refused and where. A book has one of two forms, told by its first byte.
+// is, specs/Reading what is refused and where. A book has one of three forms, told by its first byte.
 pub mod sections;
 
 use accounts::Accounts;
@@ -29,10 +29,14 @@ pub const POLICIES: usize = 32;
 // The first byte of a book whose rows have person numbers. No old book starts so: it would have too many permissions.
 const PERSONS: usize = 200;
 
-// What a book has: the rows of an old one have no person numbers, and each is a person of its own.
+// The first byte of one whose policies name their editions, too.
+const EDITIONS: usize = 201;
+
+// What a book has: the rows of an old one have no person numbers, and each is a person of its own; policies without editions are of the first.
 pub enum Form {
     Old,
     Persons,
+    Editions,
 }
 
 // What is wrong with a book. `number` gives the number that is published for each.
@@ -115,6 +119,7 @@ impl Form {
         match self {
             Form::Old => 0,
             Form::Persons => 1,
+            Form::Editions => 1,
         }
     }
 }
@@ -171,8 +176,12 @@ pub fn form_of(book: &[u8]) -> Form
     ensures reply { λ r. ⌜ r ≡ formOf (now (book .entry)) ⌝ }
     ensures kept { λ _. ⌜ now (book .exit) ≡ now (book .entry) ⌝ }
 {
-    if count_at(book, 0) == PERSONS {
+    let first = count_at(book, 0);
+    if first == PERSONS {
         return Form::Persons;
+    }
+    if first == EDITIONS {
+        return Form::Editions;
     }
     Form::Old
 }
@@ -359,8 +368,9 @@ pub fn policy_in(book: &[u8], start: usize, i: usize) -> Listed
     ensures reply { λ r. ⌜ r ≡ policyIn (now (book .entry)) start i ⌝ }
     ensures kept { λ _. ⌜ now (book .exit) ≡ now (book .entry) ⌝ }
 {
-    match place_of(book, form_of(book), Section::Policies, start, i) {
-        Place::At(at) => match policy_from(book, at) {
+    let form = form_of(book);
+    match place_of(book, form, Section::Policies, start, i) {
+        Place::At(at) => match policy_from(book, form, at) {
             Made::Policy(policy) => Listed::Policy(policy),
             Made::Refused(_) => Listed::NoSuchPolicy,
         },

@@ -19,17 +19,18 @@ ghost use mathlib.Core.Bool.{true};
 ghost use Prim.Native.Nat.{_+_, _<_, _^_};
 ghost use lib.Dec.{ltb};
 ghost use lib.ListN.{length, getD};
-ghost use Rattle.book.specs.Layout.{rowWidths, policyWidths, hasPersons};
-ghost use Rattle.book.specs.Reading.{number, pastListed, rowAmiss, holdingsField, fieldOf, fieldPlace, cutPlace, width, codes, rowsOf, policies, entryAt, entryLook};
+ghost use Rattle.book.specs.Layout.{rowWidths, policyWidths, hasPersons, hasEditions};
+ghost use Rattle.book.specs.Reading.{number, pastListed, rowAmiss, holdingsField, fieldOf, fieldPlace, cutPlace, width, codes, rowsOf, policiesOf, entryAt, entryLook};
 ghost use Rattle.book.specs.Inner.Steps.{widthIn, leadIn, staysIn, outIn, countFaultIn, countAmissIn, countIn, madeAt, lookIn, pastEntry, stepFrom, startAt, stepIn};
 
-// The widths of the entries, in bytes.
+// The width of a code, in bytes.
 const CODE_WIDTH: usize = 2;
-
-const POLICY_WIDTH: usize = 7;
 
 // P's width, the first field of a policy.
 const TASK_WIDTH: usize = 4;
+
+// The edition of a policy of an older book, which names none.
+const UNNAMED: u32 = 1;
 
 // ---- what stands at a place
 
@@ -108,6 +109,18 @@ pub fn row_width(form: Form) -> usize
     match form {
         Form::Old => 8,
         Form::Persons => 12,
+        Form::Editions => 12,
+    }
+}
+
+// A policy's width, with its edition or without.
+pub fn policy_width(form: Form) -> usize
+    ensures { λ r. ⌜ r ≡ width (policiesOf form) ⌝ }
+{
+    match form {
+        Form::Old => 7,
+        Form::Persons => 7,
+        Form::Editions => 8,
     }
 }
 
@@ -118,7 +131,7 @@ pub(crate) fn width(form: Form, section: Section) -> usize
     match section {
         Section::Permissions => CODE_WIDTH,
         Section::Rows => row_width(form),
-        Section::Policies => POLICY_WIDTH,
+        Section::Policies => policy_width(form),
     }
 }
 
@@ -209,6 +222,7 @@ fn holdings_field(form: Form) -> usize
     match form {
         Form::Old => 1,
         Form::Persons => 2,
+        Form::Editions => 2,
     }
 }
 
@@ -257,6 +271,11 @@ pub(crate) fn row_from(book: &[u8], form: Form, at: usize) -> Row
             person: second,
             holdings: four(book, at + 8),
         },
+        Form::Editions => Row {
+            staff: staff,
+            person: second,
+            holdings: four(book, at + 8),
+        },
     }
 }
 
@@ -279,22 +298,35 @@ fn look_row(book: &[u8], form: Form, listed: usize, cursor: Cursor) -> Look
     }
 }
 
+// The edition of the policy whose fields stand here. An older book names none: it is the first.
+fn edition_from(book: &[u8], form: Form, at: usize) -> u32
+    requires { ⌜ at + width (policiesOf form) < 2 ^ 64 ⌝ }
+    ensures { λ r. ⌜ r ≡ entryAt (policiesOf form) (now (book .entry)) at .edition ⌝ }
+{
+    match form {
+        Form::Old => UNNAMED,
+        Form::Persons => UNNAMED,
+        Form::Editions => wide(byte(book, at + 7)),
+    }
+}
+
 // The policy whose fields stand here, or its own first fault.
-pub(crate) fn policy_from(book: &[u8], at: usize) -> Made
-    requires { ⌜ at + 7 < 2 ^ 64 ⌝ }
-    ensures { λ r. ⌜ r ≡ madeAt (now (book .entry)) at ⌝ }
+pub(crate) fn policy_from(book: &[u8], form: Form, at: usize) -> Made
+    requires { ⌜ at + width (policiesOf form) < 2 ^ 64 ⌝ }
+    ensures { λ r. ⌜ r ≡ madeAt form (now (book .entry)) at ⌝ }
 {
     let task = four(book, at);
     let away = wide(byte(book, at + 4));
     let crews = count_at(book, at + 5);
     let size = wide(byte(book, at + 6));
-    Policy::new(task, away, crews, size)
+    let edition = edition_from(book, form, at);
+    Policy::new(task, away, crews, size, edition)
 }
 
 // Where the first field of a policy starts that a book which ends in this policy does not have whole. After P each field is one byte.
-fn cut_policy(book: &[u8], at: usize) -> usize
-    requires { ⌜ length (now book) < at + 7 ⌝ }
-    ensures { λ r. ⌜ r ≡ cutPlace policyWidths (length (now (book .entry))) at ⌝ }
+fn cut_policy(book: &[u8], form: Form, at: usize) -> usize
+    requires { ⌜ length (now book) < at + width (policiesOf form) ⌝ }
+    ensures { λ r. ⌜ r ≡ cutPlace (policyWidths (hasEditions form)) (length (now (book .entry))) at ⌝ }
 {
     if cut(book, at, TASK_WIDTH) {
         return at;
@@ -313,12 +345,13 @@ pub fn policy_field(refusal: Refusal) -> usize
         Refusal::Crews => 2,
         Refusal::Size => 3,
         Refusal::Absence => 0,
+        Refusal::Edition => 4,
     }
 }
 
 // How far into a policy that field starts.
 fn policy_offset(refusal: Refusal) -> usize
-    ensures { λ r. ⌜ r ≡ fieldPlace policyWidths 0 (fieldOf refusal) ⌝ }
+    ensures { λ r. ⌜ r ≡ fieldPlace (policyWidths true) 0 (fieldOf refusal) ⌝ }
 {
     match refusal {
         Refusal::Rows => 0,
@@ -327,21 +360,25 @@ fn policy_offset(refusal: Refusal) -> usize
         Refusal::Crews => 5,
         Refusal::Size => 6,
         Refusal::Absence => 0,
+        Refusal::Edition => 7,
     }
 }
 
 // A policy.
-fn look_policy(book: &[u8], listed: usize, at: usize) -> Look
-    ensures { λ r. ⌜ r ≡ entryLook policies (now (book .entry)) listed Before.Nothing at ⌝ }
+fn look_policy(book: &[u8], form: Form, listed: usize, at: usize) -> Look
+    ensures { λ r. ⌜ r ≡ entryLook (policiesOf form) (now (book .entry)) listed Before.Nothing at ⌝ }
 {
-    if cut(book, at, POLICY_WIDTH) {
-        return Look::Faulty(Fault::Short, cut_policy(book, at));
+    if cut(book, at, policy_width(form)) {
+        return Look::Faulty(Fault::Short, cut_policy(book, form, at));
     }
     if past_listed(listed, four(book, at)) {
         return Look::Faulty(Fault::Task, at);
     }
-    match policy_from(book, at) {
-        Made::Refused(refusal) => Look::Faulty(Fault::Policy(refusal), at + policy_offset(refusal)),
+    match policy_from(book, form, at) {
+        Made::Refused(refusal) => {
+            let place = at + policy_offset(refusal);
+            Look::Faulty(Fault::Policy(refusal), place)
+        }
         Made::Policy(_) => Look::Sound,
     }
 }
@@ -353,7 +390,7 @@ fn look_entry(book: &[u8], form: Form, section: Section, listed: usize, cursor: 
     match section {
         Section::Permissions => look_code(book, cursor),
         Section::Rows => look_row(book, form, listed, cursor),
-        Section::Policies => look_policy(book, listed, cursor.at),
+        Section::Policies => look_policy(book, form, listed, cursor.at),
     }
 }
 

@@ -1,4 +1,4 @@
--- `go_on` and the loop of `try_each`, apart from their code. A placement: nothing comes of one that fills a crew without covering, and from
+-- `go_on` and the loop of `try_each`, apart from their code. A placement: nothing comes of one that fills a crew that cannot be closed, and from
 -- any other filling goes on. The loop: what is still to be tried is `rest`, and trying it at `units` gives what the whole search gives at
 -- `spent`; each way through a turn keeps that or ends with the answer. Assumes nothing.
 use mathlib.Core.Path.{_≡_, sym, ap, ap₂, _∙_}
@@ -7,11 +7,10 @@ use mathlib.Core.Bool.{true, false}
 use mathlib.Core.List.{List, _∷_}
 use Prim.Native.Nat.{ℕ, suc, _+_, _-_, _*_, _%_, _^_, _≤_, _<_}
 use native.Mathlib.Omega.{arith}
-use lib.Bits.{bitAnd, bitXor}
+use lib.Bits.{bitXor}
 use lib.Count.{ones, trailingZeros}
-use lib.Dec.{eqb}
-use borrow.Author.Tests.{eqb-true, eqb-false, leb-true, leb-false}
-use Rattle.sets.specs.Sets.{bit, Has, Sub, Least, bit-and, bit-le, ones-none, trailing-least, shl-one}
+use borrow.Author.Tests.{leb-true, leb-false}
+use Rattle.sets.specs.Sets.{bit, Has, Sub, Least, bit-le, ones-none, trailing-least, shl-one}
 use Rattle.sets.specs.Members.{members}
 use Rattle.sets.specs.Laws.Sums.{either}
 use Rattle.sets.specs.Laws.Drop.{drop-sub, drop-lt, ones-drop}
@@ -21,11 +20,11 @@ use Rattle.roster.specs.Replies.{noCrews}
 use Rattle.crews.specs.declared.Filling.{Filling}
 use Rattle.crews.specs.declared.Ending.the-variants.{Exhausted, Undecided}
 use Rattle.crews.specs.declared.Filled.{Filled}
-use Rattle.crews.specs.Filling.{Work, Outcome, missingOf, placeOf, closeOf, placedOf, wantedOf, tryEach, search, orderly}
+use Rattle.crews.specs.Filling.{Work, Outcome, missingOf, placeOf, closeOf, closesOf, placedOf, poolOf, tryEach, search, orderly}
 use Rattle.sets.specs.Arrays.{at}
 use Rattle.crews.specs.Filled.{filledOf}
 use Rattle.crews.specs.Inner.Placing.{closedWhere, HasRoom, stuck, eligibleOf, Ready, Placing}
-use Rattle.crews.specs.Laws.Search.{search-full}
+use Rattle.crews.specs.Laws.Search.{pool-in, search-full}
 use Rattle.crews.specs.Laws.Steps as step
 
 -- ---- a placement
@@ -36,18 +35,18 @@ module _ (f : Filling) (row holds : ℕ) where
   unfolding placeOf
   placed-falls h = ones-drop (f .free) row h
 
-  module _ (task : ℕ) where
+  module _ (task least : ℕ) where
     abbrev settled : Filling
-    settled = closedWhere task (placeOf f row holds)
+    settled = closedWhere task least (placeOf f row holds)
 
-    -- what holds of the crew closed, where it covers, and of the crew left open, where it does not, holds of either
-    settled-is : (Q : Filling → Type 0) → (missingOf task (placeOf f row holds) ≡ 0 → Q (closeOf (placeOf f row holds)))
-        → (missingOf task (placeOf f row holds) ≢ 0 → Q (placeOf f row holds)) → Q settled
+    -- what holds of the crew closed, where it can be, and of the crew left open, where it cannot, holds of either
+    settled-is : (Q : Filling → Type 0) → (closesOf task least (placeOf f row holds) ≡ true → Q (closeOf (placeOf f row holds)))
+        → (closesOf task least (placeOf f row holds) ≡ false → Q (placeOf f row holds)) → Q settled
     settled-is Q shut open-still =
         ⊎-elim
-        (λ e. let z = eqb-true _ 0 e in rw (step.shut task (placeOf f row holds) z) (shut z))
-        (λ e. let z = eqb-false _ 0 e in rw (step.short task (placeOf f row holds) z) (open-still z))
-        (either (eqb (missingOf task (placeOf f row holds)) 0))
+        (λ e. rw (step.shut task least (placeOf f row holds) e) (shut e))
+        (λ e. rw (step.short task least (placeOf f row holds) e) (open-still e))
+        (either (closesOf task least (placeOf f row holds)))
 
     -- closed or not, there is at most one crew more
     closed-next : settled .closed ≤ f .closed + 1
@@ -55,15 +54,15 @@ module _ (f : Filling) (row holds : ℕ) where
     closed-next = settled-is (λ g. g .closed ≤ f .closed + 1) (λ z. omega arith) (λ z. omega arith)
 
     -- a crew just begun has room, and so has one that is not full
-    room-next : (size : ℕ) → HasRoom size f → stuck task size (placeOf f row holds) ≡ false → HasRoom size settled
+    room-next : (size : ℕ) → HasRoom size f → stuck task size least (placeOf f row holds) ≡ false → HasRoom size settled
     unfolding placeOf closeOf
     room-next size room k =
         settled-is (HasRoom size) (λ z. omega (arith, room, ones-none))
-        (λ z. leb-false _ _ (sym (step.lacking task (placeOf f row holds) size z) ∙ k))
+        (λ z. leb-false _ _ (sym (step.lacking task least (placeOf f row holds) size z) ∙ k))
 
-module _ (holds holders : ℕ → ℕ) (task crews size : ℕ) (f : Filling) (row spent allowance : ℕ) (p : Placing crews size f row spent allowance) where
+module _ (holds holders : ℕ → ℕ) (task crews size least : ℕ) (f : Filling) (row spent allowance : ℕ) (p : Placing crews size f row spent allowance) where
   abbrev w : Work
-  w = orderly holds holders task crews size
+  w = orderly holds holders task crews size least
 
   -- what `go_on` answers
   abbrev whole : Filled
@@ -72,8 +71,8 @@ module _ (holds holders : ℕ → ℕ) (task crews size : ℕ) (f : Filling) (ro
   abbrev next : Filling
   next = placeOf f row (holds row)
 
-  settled-next : placedOf w f row ≡ closedWhere task next
-  settled-next = step.placed-orderly holds holders task crews size f row
+  settled-next : placedOf w f row ≡ closedWhere task least next
+  settled-next = step.placed-orderly holds holders task crews size least f row
 
   -- g is what the code has of the state after the placement
   module _ {g : Filling} (eq : g ≡ next) where
@@ -81,33 +80,33 @@ module _ (holds holders : ℕ → ℕ) (task crews size : ℕ) (f : Filling) (ro
     pub free-falls : suc (ones (g .free)) ≡ ones (f .free)
     free-falls = rw eq (placed-falls f row (holds row) (p .free))
 
-    -- the crew is full without covering: nothing deeper
-    pub stuck-here : stuck task size g ≡ true → record { ending = Exhausted; crews = noCrews; units = spent } ≡ whole
+    -- the crew is full and cannot be closed: nothing deeper
+    pub stuck-here : stuck task size least g ≡ true → record { ending = Exhausted; crews = noCrews; units = spent } ≡ whole
     unfolding placeOf
     stuck-here k =
-        let x = step.stuck-is task next size (ap (stuck task size) (sym eq) ∙ k) in
+        let x = step.stuck-is task least next size (ap (stuck task size least) (sym eq) ∙ k) in
         step.says-exhausted allowance spent (search (ones (f .free) - 1) w (placedOf w f row))
-        (ap (search (ones (f .free) - 1) w) (settled-next ∙ step.short task next (x .0))
+        (ap (search (ones (f .free) - 1) w) (settled-next ∙ step.short task least next (x .0))
         ∙ search-full w next _ (λ e. omega (arith, p .going)) (leb-true _ _ (x .1)))
         (p .within)
 
     -- else each candidate can be tried from there
-    pub next-ready : stuck task size g ≡ false → Ready task crews size g spent allowance
+    pub next-ready : stuck task size least g ≡ false → Ready task crews size least g spent allowance
     next-ready k =
         rw eq
         (record {
           few = p .few;
-          closed = omega (arith, p .going, closed-next f row (holds row) task);
-          room = λ n. room-next f row (holds row) task size (p .room) (ap (stuck task size) (sym eq) ∙ k);
+          closed = omega (arith, p .going, closed-next f row (holds row) task least);
+          room = λ n. room-next f row (holds row) task least size (p .room) (ap (stuck task size least) (sym eq) ∙ k);
           within = p .within;
         })
 
     -- and what comes of that is the answer
-    pub went-on : {r : Filled} → r ≡ filledOf allowance spent (search (ones (g .free)) w (closedWhere task g)) → r ≡ whole
+    pub went-on : {r : Filled} → r ≡ filledOf allowance spent (search (ones (g .free)) w (closedWhere task least g)) → r ≡ whole
     went-on e =
         let n : ones (next .free) ≡ ones (f .free) - 1 = omega (arith, placed-falls f row (holds row) (p .free)) in
         e
-        ∙ ap (λ (x : Filling). filledOf allowance spent (search (ones (x .free)) w (closedWhere task x))) eq
+        ∙ ap (λ (x : Filling). filledOf allowance spent (search (ones (x .free)) w (closedWhere task least x))) eq
         ∙ ap (filledOf allowance spent) (ap₂ (λ (k : ℕ) (x : Filling). search k w x) n (sym settled-next))
 
 -- ---- the turns
@@ -119,12 +118,13 @@ pub record Asked : Type 0 where
   pub task : ℕ
   pub crews : ℕ
   pub size : ℕ
+  pub least : ℕ
   pub state : Filling
   pub spent : ℕ
   pub allowance : ℕ
 
 abbrev pub rule : Asked → Work
-rule a = orderly (at (a .holds)) (at (a .holders)) (a .task) (a .crews) (a .size)
+rule a = orderly (at (a .holds)) (at (a .holders)) (a .task) (a .crews) (a .size) (a .least)
 
 -- what it answers
 abbrev pub answer : Asked → Filled
@@ -132,16 +132,16 @@ answer a = filledOf (a .allowance) (a .spent) (search (ones (a .state .free)) (r
 
 -- what its contract says of a state not settled yet, where these units are spent
 abbrev pub promised : Asked → ℕ → Filling → Filled
-promised a units placed = filledOf (a .allowance) units (search (ones (placed .free)) (rule a) (closedWhere (a .task) placed))
+promised a units placed = filledOf (a .allowance) units (search (ones (placed .free)) (rule a) (closedWhere (a .task) (a .least) placed))
 
-pub settled-answer : (a : Asked) (placed : Filling) → a .state ≡ closedWhere (a .task) placed → answer a ≡ promised a (a .spent) placed
+pub settled-answer : (a : Asked) (placed : Filling) → a .state ≡ closedWhere (a .task) (a .least) placed → answer a ≡ promised a (a .spent) placed
 settled-answer a placed e =
     ap (filledOf (a .allowance) (a .spent))
-    (ap₂ (λ (n : ℕ) (f : Filling). search n (rule a) f) (ap ones (ap (λ (f : Filling). f .free) e ∙ step.closed-free (a .task) placed)) e)
+    (ap₂ (λ (n : ℕ) (f : Filling). search n (rule a) f) (ap ones (ap (λ (f : Filling). f .free) e ∙ step.closed-free (a .task) (a .least) placed)) e)
 
--- the free rows that hold the permission wanted, and those of them that may come next
+-- the rows that are wanted, and those of them that may come next
 abbrev holding : Asked → ℕ
-holding a = bitAnd (at (a .holders) (wantedOf (a .task) (a .state))) (a .state .free)
+holding a = poolOf (at (a .holders)) (missingOf (a .task) (a .state)) (a .state .free)
 
 abbrev pub all : Asked → ℕ
 all a = eligibleOf (a .state) (holding a)
@@ -166,8 +166,8 @@ pub record Going (a : Asked) (rest units : ℕ) : Type 0 where
   pub within : units ≤ a .allowance
   pub same : answer a ≡ filledOf (a .allowance) units (trying a (members 0 64 rest))
 
-pub begun : (a : Asked) (placed : Filling) {rest : ℕ} → a .state ≡ closedWhere (a .task) placed
-    → Ready (a .task) (a .crews) (a .size) placed (a .spent) (a .allowance) → rest ≡ all a → rest < 2 ^ 64 → a .state .closed ≢ a .crews
+pub begun : (a : Asked) (placed : Filling) {rest : ℕ} → a .state ≡ closedWhere (a .task) (a .least) placed
+    → Ready (a .task) (a .crews) (a .size) (a .least) placed (a .spent) (a .allowance) → rest ≡ all a → rest < 2 ^ 64 → a .state .closed ≢ a .crews
     → Going a rest (a .spent)
 begun a placed es r e w n =
     record {
@@ -180,12 +180,12 @@ begun a placed es r e w n =
             arith,
             ap (λ (x : ℕ). bit x i) e,
             step.eligible-in (a .state) (holding a) i,
-            bit-and (at (a .holders) (wantedOf (a .task) (a .state))) (a .state .free) i,
+            pool-in (at (a .holders)) (missingOf (a .task) (a .state)) (a .state .free) i,
           );
       within = r .within;
       same =
           ap (filledOf (a .allowance) (a .spent))
-          (step.search-tries (at (a .holds)) (at (a .holders)) (a .task) (a .crews) (a .size) (a .state) n room
+          (step.search-tries (at (a .holds)) (at (a .holders)) (a .task) (a .crews) (a .size) (a .least) (a .state) n room
           ∙ ap (λ (x : ℕ). trying a (members 0 64 x)) (sym e));
     }
   where

@@ -1,6 +1,6 @@
 -- 01, "Filling crews": the search as it is told there, without an allowance: whether it ends with a crew list, the list, and how many
 -- placements it made. Nothing here is proved: these are definitions, and they run.
-use mathlib.Core.Bool.{Bool, true, false}
+use mathlib.Core.Bool.{Bool, true, false, _&&_}
 use mathlib.Core.List.{List, [], _∷_}
 use Prim.Native.Nat.{ℕ, zero, suc, _+_, _-_, _^_}
 use lib.Bits.{bitAnd, bitOr, bitXor}
@@ -11,12 +11,12 @@ use Rattle.sets.specs.Members.{members, filter, setOf, hasb}
 use Rattle.sets.specs.Sets.{minus}
 use Rattle.roster.specs.declared.Table.{Table}
 use Rattle.roster.specs.Limits.{rowLimit}
-use Rattle.roster.specs.Meaning.{held}
+use Rattle.roster.specs.Meaning.{held, leastMembers}
 use Rattle.roster.specs.Replies.{noCrews}
 use Rattle.crews.specs.declared.Filling.{Filling}
 
--- What the crews are filled from and for: each row's holdings, for each permission the rows that hold it, the task P, d and t. The last
--- two are what requests change: which rows may begin a crew, and whether a crew that covers may close.
+-- What the crews are filled from and for: each row's holdings, for each permission the rows that hold it, the task P, d and t; which rows may
+-- begin a crew; and how many members a crew has at least, which is what an edition says.
 pub record Work : Type 0 where
   pub holds : ℕ → ℕ
   pub holders : ℕ → ℕ
@@ -24,7 +24,7 @@ pub record Work : Type 0 where
   pub crews : ℕ
   pub size : ℕ
   pub begins : Filling → ℕ → Bool
-  pub closes : Filling → Bool
+  pub least : ℕ
 
 -- What the search comes to.
 pub record Outcome : Type 0 where
@@ -63,23 +63,31 @@ unfoldable pub closeOf : Filling → Filling
 closeOf f =
     record { crews = set (f .crews) (f .closed) (f .crew); closed = f .closed + 1; crew = 0; free = f .free; held = 0; from = f .from }
 
--- "A crew that covers P is closed and the next begun."
+-- "A crew that covers P is closed and the next begun"; under edition 2 one "that covers with one member placed takes a companion before it
+-- closes"
+unfoldable pub closesOf : ℕ → ℕ → Filling → Bool
+closesOf task least f = eqb (missingOf task f) 0 && leb least (ones (f .crew))
+
 unfoldable pub placedOf : Work → Filling → ℕ → Filling
 placedOf w f row =
     let g = placeOf f row (w .holds row) in
-    elim (eqb (missingOf (w .task) g) 0) [
-      | true ↦ elim (w .closes g) [ true ↦ closeOf g | false ↦ g ]
-      | false ↦ g
-    ]
+    elim (closesOf (w .task) (w .least) g) [ true ↦ closeOf g | false ↦ g ]
 
 -- "take the lowest permission of P not yet held there"
 abbrev pub wantedOf : ℕ → Filling → ℕ
 wantedOf task f = trailingZeros 32 (missingOf task f)
 
--- "The candidates are the rows in ascending order that hold it, are not absent and are in no crew."
+-- "the rows ... that hold it, are not absent and are in no crew"; where nothing is missing, a companion comes "from the present free persons"
+unfoldable pub poolOf : (ℕ → ℕ) → ℕ → ℕ → ℕ
+poolOf holders missing free = elim (eqb missing 0) [ true ↦ free | false ↦ bitAnd (holders (trailingZeros 32 missing)) free ]
+
+abbrev pub pool : Work → Filling → ℕ
+pool w f = poolOf (w .holders) (missingOf (w .task) f) (f .free)
+
+-- "in ascending order"; the rule for the first row of a crew binds no other
 unfoldable pub candidates : Work → Filling → List ℕ
 candidates w f =
-    let all = members 0 rowLimit (bitAnd (w .holders (wantedOf (w .task) f)) (f .free)) in
+    let all = members 0 rowLimit (pool w f) in
     elim (eqb (f .crew) 0) [ true ↦ filter (w .begins f) all | false ↦ all ]
 
 -- Each candidate in turn, by `deeper`, up to the first that leads to a complete list. "Every placement, also one that fills a crew without
@@ -125,41 +133,41 @@ holdsOf table P u = elim (leb (table .rows) u) [ true ↦ 0 | false ↦ held tab
 abbrev pub holdersOf : (ℕ → ℕ) → ℕ → ℕ
 holdersOf holds p = setOf rowLimit (λ u. hasb (holds u) p)
 
--- the work where this says which rows may begin a crew; a crew that covers closes
-abbrev pub workBy : (Filling → ℕ → Bool) → (ℕ → ℕ) → (ℕ → ℕ) → ℕ → ℕ → ℕ → Work
-workBy begins holds holders P d t = record {
+-- the work where this says which rows may begin a crew
+abbrev pub workBy : (Filling → ℕ → Bool) → (ℕ → ℕ) → (ℕ → ℕ) → ℕ → ℕ → ℕ → ℕ → Work
+workBy begins holds holders P d t least = record {
   holds = holds;
   holders = holders;
   task = P;
   crews = d;
   size = t;
   begins = begins;
-  closes = λ f. true;
+  least = least;
 }
 
 -- "The first row placed in a crew must now have a higher row number than the first row of the crew before."
-abbrev pub orderly : (ℕ → ℕ) → (ℕ → ℕ) → ℕ → ℕ → ℕ → Work
-orderly holds holders P d t = workBy (λ f u. leb (f .from) u) holds holders P d t
+abbrev pub orderly : (ℕ → ℕ) → (ℕ → ℕ) → ℕ → ℕ → ℕ → ℕ → Work
+orderly holds holders P d t least = workBy (λ f u. leb (f .from) u) holds holders P d t least
 
-abbrev pub workOf : Table → ℕ → ℕ → ℕ → Work
-workOf table P d t = orderly (holdsOf table P) (holdersOf (holdsOf table P)) P d t
+abbrev pub workOf : Table → ℕ → ℕ → ℕ → ℕ → Work
+workOf table P d t ed = orderly (holdsOf table P) (holdersOf (holdsOf table P)) P d t (leastMembers ed)
 
 -- the rows that are not absent
 abbrev pub present : Table → ℕ → ℕ
 present table A = minus rowLimit (2 ^ table .rows - 1) A
 
 -- what filling the crews comes to with A absent
-abbrev pub filling : Table → ℕ → ℕ → ℕ → ℕ → Outcome
-filling table P d t A = searchFrom (workOf table P d t) (present table A)
+abbrev pub filling : Table → ℕ → ℕ → ℕ → ℕ → ℕ → Outcome
+filling table P d t ed A = searchFrom (workOf table P d t ed) (present table A)
 
 -- ---- the rule before, kept as the reference
 
 -- any row may begin a crew
-abbrev pub plainly : (ℕ → ℕ) → (ℕ → ℕ) → ℕ → ℕ → ℕ → Work
-plainly holds holders P d t = workBy (λ f u. true) holds holders P d t
+abbrev pub plainly : (ℕ → ℕ) → (ℕ → ℕ) → ℕ → ℕ → ℕ → ℕ → Work
+plainly holds holders P d t least = workBy (λ f u. true) holds holders P d t least
 
-abbrev pub workBefore : Table → ℕ → ℕ → ℕ → Work
-workBefore table P d t = plainly (holdsOf table P) (holdersOf (holdsOf table P)) P d t
+abbrev pub workBefore : Table → ℕ → ℕ → ℕ → ℕ → Work
+workBefore table P d t ed = plainly (holdsOf table P) (holdersOf (holdsOf table P)) P d t (leastMembers ed)
 
-abbrev pub fillingBefore : Table → ℕ → ℕ → ℕ → ℕ → Outcome
-fillingBefore table P d t A = searchFrom (workBefore table P d t) (present table A)
+abbrev pub fillingBefore : Table → ℕ → ℕ → ℕ → ℕ → ℕ → Outcome
+fillingBefore table P d t ed A = searchFrom (workBefore table P d t ed) (present table A)

@@ -10,14 +10,14 @@ ghost use Prim.Native.Nat.{_-_, _≤_, _<_};
 ghost use lib.Bits.{bitAnd, bitXor};
 ghost use lib.Count.{ones};
 ghost use Rattle.roster.specs.Limits.{rowLimit, crewLimit};
-ghost use Rattle.crews.specs.Filling.{placeOf, closeOf, placedOf, wantedOf, begin, search, orderly, holdsOf, holdersOf};
+ghost use Rattle.crews.specs.Filling.{placeOf, closeOf, closesOf, placedOf, poolOf, begin, search, orderly, holdsOf, holdersOf};
 ghost use Rattle.sets.specs.Arrays.{tabulate, at};
 ghost use Rattle.crews.specs.Filled.{filledWith, filledOf, foundFrom};
 ghost use Rattle.crews.specs.Inner.Placing.{closedWhere, stuck, eligibleOf, Ready, Placing};
 ghost use Rattle.crews.specs.Inner.Replied.{repliedOf};
 ghost use Rattle.roster.specs.Replies.{noCrews};
 ghost use Rattle.crews.specs.declared.Ending.the-variants.{Complete};
-ghost use Rattle.crews.specs.Named.{NamedReply};
+ghost use Rattle.crews.specs.Named.{NamedReplyFor};
 
 // The half-filled crews: those closed, the one being filled, the rows neither absent nor placed, what the crew being filled holds, and the
 // lowest row that may begin the next crew. The crew being filled is a field of its own because it changes with each row: written into the
@@ -97,23 +97,26 @@ impl Filling {
         }
     }
 
-    // The crew being filled closed where it covers the task.
-    fn settled(self, task: u32) -> Filling
-        requires { ⌜ closedWhere task self .closed ≤ crewLimit ⌝ }
-        ensures { λ r. ⌜ r ≡ closedWhere task self ⌝ }
+    // Whether the crew being filled can be closed: it covers the task and has members enough.
+    fn closes(self, task: u32, least: u32) -> bool
+        ensures { λ r. ⌜ r ≡ closesOf task least self ⌝ }
     {
-        if missing(task, self.held) == 0 {
+        if missing(task, self.held) != 0 {
+            return false;
+        }
+        sets::size(self.crew) >= least
+    }
+
+    // The crew being filled closed where it can be.
+    fn settled(self, task: u32, least: u32) -> Filling
+        requires { ⌜ closedWhere task least self .closed ≤ crewLimit ⌝ }
+        ensures { λ r. ⌜ r ≡ closedWhere task least self ⌝ }
+    {
+        if self.closes(task, least) {
             self.close()
         } else {
             self
         }
-    }
-
-    // The lowest permission of the task that the crew being filled does not hold; 32 where it holds them all.
-    fn wanted(self, task: u32) -> u32
-        ensures { λ r. ⌜ r ≡ wantedOf task self ⌝ }
-    {
-        sets::lowest(missing(task, self.held))
     }
 
     // Of these rows those that may come next in the crew being filled: a crew begins above the first row of the crew before.
@@ -126,14 +129,14 @@ impl Filling {
         rows
     }
 
-    // Whether the crew being filled is full without covering: nothing further fits.
-    fn stuck(self, task: u32, size: u32) -> bool
-        ensures { λ r. ⌜ r ≡ stuck task size self ⌝ }
+    // Whether the crew being filled is full and cannot be closed: nothing further fits.
+    fn stuck(self, task: u32, size: u32, least: u32) -> bool
+        ensures { λ r. ⌜ r ≡ stuck task size least self ⌝ }
     {
-        if missing(task, self.held) != 0 {
-            return sets::size(self.crew) >= size;
+        if self.closes(task, least) {
+            return false;
         }
-        false
+        sets::size(self.crew) >= size
     }
 
     // The crews as a complete list.
@@ -169,11 +172,15 @@ fn missing(task: u32, held: u32) -> u32
     task ^ (task & held)
 }
 
-// The free rows that hold the permission. No row holds one that is past the array's end.
-fn candidates(holders: &[u64], wanted: u32, free: u64) -> u64
-    ensures { λ r. ⌜ r ≡ bitAnd (at (now (holders .entry)) wanted) free ⌝ }
+// The free rows that hold the lowest permission missing, none if it is past the array's end; all of them where nothing is missing, since
+// the crew then wants a companion.
+fn candidates(holders: &[u64], missing: u32, free: u64) -> u64
+    ensures { λ r. ⌜ r ≡ poolOf (at (now (holders .entry))) missing free ⌝ }
 {
-    let permission = wanted as usize;
+    if missing == 0 {
+        return free;
+    }
+    let permission = sets::lowest(missing) as usize;
     if permission >= holders.len() {
         return 0;
     }
@@ -187,19 +194,30 @@ fn go_on(
     task: u32,
     crews: usize,
     size: u32,
+    least: u32,
     before: Filling,
     row: usize,
     spent: u32,
     allowance: u32,
 ) -> Filled
     requires { ⌜ Placing crews size before row spent allowance ⌝ }
-    ensures { λ r. ⌜ r ≡ filledOf allowance spent (search (ones (before .free) - 1) (orderly (at (now (holds .entry))) (at (now (holders .entry))) task crews size) (placedOf (orderly (at (now (holds .entry))) (at (now (holders .entry))) task crews size) before row)) ⌝ }
+    ensures { λ r. ⌜ r ≡ filledOf allowance spent (search (ones (before .free) - 1) (orderly (at (now (holds .entry))) (at (now (holders .entry))) task crews size least) (placedOf (orderly (at (now (holds .entry))) (at (now (holders .entry))) task crews size least) before row)) ⌝ }
 {
     let placed = before.place(row, holds[row]);
-    if placed.stuck(task, size) {
+    if placed.stuck(task, size, least) {
         return Filled::without_crews(Ending::Exhausted, spent);
     }
-    try_each(holds, holders, task, crews, size, placed, spent, allowance)
+    try_each(
+        holds,
+        holders,
+        task,
+        crews,
+        size,
+        least,
+        placed,
+        spent,
+        allowance,
+    )
 }
 
 // Each candidate in turn, from the state just placed. The crew is closed here and not where the row was placed, so that no copy of the crews
@@ -210,18 +228,19 @@ fn try_each(
     task: u32,
     crews: usize,
     size: u32,
+    least: u32,
     placed: Filling,
     spent: u32,
     allowance: u32,
 ) -> Filled
-    requires { ⌜ Ready task crews size placed spent allowance ⌝ }
-    ensures { λ r. ⌜ r ≡ filledOf allowance spent (search (ones (placed .free)) (orderly (at (now (holds .entry))) (at (now (holders .entry))) task crews size) (closedWhere task placed)) ⌝ }
+    requires { ⌜ Ready task crews size least placed spent allowance ⌝ }
+    ensures { λ r. ⌜ r ≡ filledOf allowance spent (search (ones (placed .free)) (orderly (at (now (holds .entry))) (at (now (holders .entry))) task crews size least) (closedWhere task least placed)) ⌝ }
 {
-    let f = placed.settled(task);
+    let f = placed.settled(task, least);
     if f.closed == crews {
         return f.complete(spent);
     }
-    let mut rest = f.eligible(candidates(holders, f.wanted(task), f.free));
+    let mut rest = f.eligible(candidates(holders, missing(task, f.held), f.free));
     let mut units = spent;
     while rest != 0 {
         if units >= allowance {
@@ -235,6 +254,7 @@ fn try_each(
             task,
             crews,
             size,
+            least,
             f,
             row,
             units + 1,
@@ -249,19 +269,20 @@ fn try_each(
     Filled::without_crews(Ending::Exhausted, units)
 }
 
-// The crews filled from the free rows, where `spent` units are spent already. Crews for no permission, and more of them than a reply has room
-// for, are not looked for; crews of no rows cover nothing.
+// The crews filled from the free rows, each of at least `least` members, where `spent` units are spent already. Crews for no permission, and
+// more of them than a reply has room for, are not looked for; crews of no rows cover nothing.
 pub fn fill(
     holds: &[u32; Policy::ROWS],
     holders: &[u64; 32],
     task: u32,
     crews: usize,
     size: u32,
+    least: u32,
     free: u64,
     spent: u32,
     allowance: u32,
 ) -> Filled
-    ensures { λ r. ⌜ r ≡ filledOf allowance spent (foundFrom (orderly (at (now (holds .entry))) (at (now (holders .entry))) task crews size) free) ⌝ }
+    ensures { λ r. ⌜ r ≡ filledOf allowance spent (foundFrom (orderly (at (now (holds .entry))) (at (now (holders .entry))) task crews size least) free) ⌝ }
     ensures kept { λ _. ⌜ (now (holds .exit) ≡ now (holds .entry)) × (now (holders .exit) ≡ now (holders .entry)) ⌝ }
 {
     if spent > allowance {
@@ -284,6 +305,7 @@ pub fn fill(
         task,
         crews,
         size,
+        least,
         Filling::begin(free),
         spent,
         allowance,
@@ -350,29 +372,23 @@ fn reply_of(filled: Filled) -> Reply
     }
 }
 
-// Which crews are left with these rows absent: the first list, none, or undecided, and the units it took.
-pub fn ask_named(
-    table: Table,
-    task: u32,
-    crews: usize,
-    size: u32,
-    absent: u64,
-    allowance: u32,
-) -> Reply
-    ensures { λ r. ⌜ NamedReply table task crews size absent allowance r ⌝ }
+// Which crews are left with these rows absent: the first list, none, or undecided, and the units it took. How many may be away plays no part.
+pub fn ask_named(table: Table, policy: Policy, absent: u64, allowance: u32) -> Reply
+    ensures { λ r. ⌜ NamedReplyFor table policy absent allowance r ⌝ }
 {
     let rows = table.rows;
-    match roster::named_ruling(rows, task, crews, size, absent) {
+    match roster::named_ruling(rows, policy, absent) {
         Ruling::Refused(refusal) => Reply::refused(refusal),
         Ruling::Admitted => {
-            let holds = holdings_within(table, task);
+            let holds = holdings_within(table, policy.task);
             let holders = holders_of(&holds);
             reply_of(fill(
                 &holds,
                 &holders,
-                task,
-                crews,
-                size,
+                policy.task,
+                policy.crews,
+                policy.size,
+                roster::least_members(policy.edition),
                 sets::below(rows) & !absent,
                 0,
                 allowance,

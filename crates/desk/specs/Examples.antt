@@ -33,6 +33,12 @@ pair one other =
 abbrev pub oldPair : List ℕ
 oldPair = 1 ∷ 10 ∷ 0 ∷ 2 ∷ 101 ∷ 0 ∷ 0 ∷ 0 ∷ 1 ∷ 0 ∷ 0 ∷ 0 ∷ 102 ∷ 0 ∷ 0 ∷ 0 ∷ 0 ∷ 0 ∷ 0 ∷ 0 ∷ 0 ∷ []
 
+-- the pair in a book with editions, with one policy of the second
+abbrev pub named : ℕ → ℕ → List ℕ
+named one other =
+    201 ∷ 1 ∷ 10 ∷ 0 ∷ 2 ∷ 101 ∷ 0 ∷ 0 ∷ 0 ∷ one ∷ 0 ∷ 0 ∷ 0 ∷ 1 ∷ 0 ∷ 0 ∷ 0 ∷ 102 ∷ 0 ∷ 0 ∷ 0 ∷ other ∷ 0 ∷ 0 ∷ 0 ∷ 0 ∷ 0 ∷ 0 ∷ 0
+    ∷ 1 ∷ 1 ∷ 0 ∷ 0 ∷ 0 ∷ 0 ∷ 1 ∷ 2 ∷ 2 ∷ []
+
 -- what is looked at: whether it was taken, the places, the first staff numbers, holdings and sets
 pub record Sight : Type 0 where
   pub intake : Intake
@@ -80,15 +86,22 @@ sights =
     ∷ untaken (Refused Permissions 0)
     ∷ []
 
--- B again; the pair in the old form; and the pair where 102 left and 99, who took the place, comes first by number with what was granted
+-- B again; the pair in the old form; the pair where 102 left and 99, who took the place, comes first by number with what was granted; and the pair with
+-- editions, which keeps them
 abbrev pub written : List (List ℕ)
-written = rewritten bookB [] ∷ rewritten (pair 8 7) [] ∷ rewritten (pair 8 7) (grant 99 0 ∷ hire 99 ∷ leave 102 ∷ []) ∷ []
+written =
+    rewritten bookB []
+    ∷ rewritten (pair 8 7) []
+    ∷ rewritten (pair 8 7) (grant 99 0 ∷ hire 99 ∷ leave 102 ∷ [])
+    ∷ rewritten (named 8 7) []
+    ∷ []
 
 abbrev pub expected : List (List ℕ)
 expected =
     bookB
     ∷ oldPair
     ∷ (1 ∷ 10 ∷ 0 ∷ 2 ∷ 99 ∷ 0 ∷ 0 ∷ 0 ∷ 1 ∷ 0 ∷ 0 ∷ 0 ∷ 101 ∷ 0 ∷ 0 ∷ 0 ∷ 1 ∷ 0 ∷ 0 ∷ 0 ∷ 0 ∷ [])
+    ∷ named 101 102
     ∷ []
 
 -- ---- the fact

@@ -8,6 +8,7 @@ use live::Objection;
 use live::Outcome;
 use live::Roster;
 use live::Told;
+use roster::Policy;
 use roster::Reply;
 
 // As much as the sheet allows.
@@ -92,13 +93,13 @@ fn question(board: Board, text: &[u8]) -> bool {
     if is_line(text, b"who", 1) && is_number(text, 1) {
         return who(board, board.bit(value(text, 1)));
     }
-    if is_line(text, b"ask", 4) && are_numbers(text) {
+    if is_asked(text, b"ask") && is_number(text, 2) {
         return policy(board, text, true);
     }
-    if is_line(text, b"full", 4) && are_numbers(text) {
+    if is_asked(text, b"full") && is_number(text, 2) {
         return policy(board, text, false);
     }
-    if is_line(text, b"away", 4) && is_number(text, 3) && is_number(text, 4) {
+    if is_asked(text, b"away") {
         return away(board, text);
     }
     if is_line(text, b"show", 0) {
@@ -119,9 +120,30 @@ fn question(board: Board, text: &[u8]) -> bool {
     not_understood(text)
 }
 
-// The three numbers behind a task.
-fn are_numbers(text: &[u8]) -> bool {
-    is_number(text, 2) && is_number(text, 3) && is_number(text, 4)
+// Whether the line is this word with four behind it, of which the last two say how many crews and how many to a crew; a fifth may say the edition.
+fn is_asked(text: &[u8], word: &[u8]) -> bool {
+    let is_whole = is_line(text, word, 4) || (is_line(text, word, 5) && is_number(text, 5));
+    is_whole && is_number(text, 3) && is_number(text, 4)
+}
+
+// The edition, which is the first where none is said.
+fn edition(text: &[u8]) -> u32 {
+    if words::has_words(text, 6) {
+        value(text, 5)
+    } else {
+        1
+    }
+}
+
+// The policy with this task and so many away, and with the crews, their size and the edition that the line says.
+fn policy_of(task: u32, away: u32, text: &[u8]) -> Policy {
+    Policy {
+        task: task,
+        away: away,
+        crews: value(text, 3) as usize,
+        size: value(text, 4),
+        edition: edition(text),
+    }
 }
 
 // Who holds a permission, in the order of their places.
@@ -211,13 +233,11 @@ fn policy(board: Board, text: &[u8], is_skipping: bool) -> bool {
 }
 
 fn asked(roster: Roster, task: u32, text: &[u8], is_skipping: bool) -> Reply {
-    let away = value(text, 2);
-    let crews = value(text, 3) as usize;
-    let size = value(text, 4);
+    let policy = policy_of(task, value(text, 2), text);
     if is_skipping {
-        return live::ask_skipping(roster, task, away, crews, size, ALLOWANCE);
+        return live::ask_skipping(roster, policy, ALLOWANCE);
     }
-    live::ask_full(roster, task, away, crews, size, ALLOWANCE)
+    live::ask_full(roster, policy, ALLOWANCE)
 }
 
 // The crews that there are with these people away.
@@ -233,16 +253,8 @@ fn without(board: Board, absent: u64, text: &[u8]) -> bool {
     match task(board, words::word(text, 2)) {
         Listed::Set(set) => {
             let roster = board.roster;
-            let crews = value(text, 3) as usize;
-            let reply = live::ask_named(
-                roster,
-                narrow(set),
-                crews,
-                value(text, 4),
-                absent,
-                ALLOWANCE,
-            );
-            said::reply(roster, reply)
+            let policy = policy_of(narrow(set), 0, text);
+            said::reply(roster, live::ask_named(roster, policy, absent, ALLOWANCE))
         }
         Listed::NoSuch => said::objection(Objection::Permission),
         Listed::Not => not_understood(text),
@@ -290,11 +302,11 @@ fn not_understood(text: &[u8]) -> bool {
         said::text(b"a permission goes with it: who 20\n")
     } else if check::same(word, b"ask") || check::same(word, b"full") {
         said::text(
-            b"a task and three numbers go with it, how many away, crews, to a crew: ask 10,20 1 2 2\n",
+            b"a task and three numbers go with it, how many away, crews, to a crew, and then an edition or none: ask 10,20 1 2 2\n",
         )
     } else if check::same(word, b"away") {
         said::text(
-            b"people, a task and two numbers go with it, crews, to a crew: away 101,104 10,20 2 2\n",
+            b"people, a task and two numbers go with it, crews, to a crew, and then an edition or none: away 101,104 10,20 2 2\n",
         )
     } else if check::same(word, b"write") {
         said::text(b"the name of a new file goes with it, without blanks: write new.book\n")
@@ -314,6 +326,7 @@ revoke 101 20          or does not
 who 20                 who holds it
 ask 10,20 1 2 2        the task 10,20: any 1 away, are there still 2 separate crews of at most 2?
 full 10,20 1 2 2       the same, trying every absence
+ask 10,20 1 2 2 2      the same by edition 2, where crews have 2 members at least; so full and away
 away 101,104 10,20 2 2 with these away, are there 2 separate crews of at most 2?
 show                   everybody, by place
 sheet                  the book's policies, asked of the roster as it stands

@@ -94,6 +94,7 @@ fn refusal(refusal: Refusal) -> bool {
         Refusal::Crews => text(b": there can be 1 to 8 crews\n"),
         Refusal::Size => text(b": a crew can have 1 to 64 members\n"),
         Refusal::Absence => text(b": somebody is away who is not in the roster\n"),
+        Refusal::Edition => text(b": the edition is 1 or 2\n"),
     }
 }
 

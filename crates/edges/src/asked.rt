@@ -1,8 +1,8 @@
 // The policy question, by either search, and the question for a named absence, as cases ask them:
 //     skipping TABLE POLICY         full TABLE POLICY         named TABLE POLICY absent PERSONS
 // A table is the holdings of its rows, `3,1,2,3`, in which `64x1` stands for 64 rows that hold 1, and `-` for no row. `3:7` is a row of the person with
-// the number 7; a row without a person number is a person of its own. A policy is P;s,d,t; persons are joined by commas. `with N` at the end is the
-// allowance, which is ample without it.
+// the number 7; a row without a person number is a person of its own. A policy is P;s,d,t of the first edition, or P;s,d,t;E; persons are joined by
+// commas. `with N` at the end is the allowance, which is ample without it.
 use crate::line::Line;
 use crate::words::after;
 use crate::words::behind;
@@ -115,7 +115,16 @@ pub(crate) fn policy_at(text: &[u8], at: usize) -> Policy {
         away: narrow(away.value),
         crews: crews.value as usize,
         size: narrow(size.value),
+        edition: edition_at(text, size.next),
     }
+}
+
+// The edition that stands behind t; the first where none does.
+fn edition_at(text: &[u8], at: usize) -> u32 {
+    if byte_at(text, at) != b';' {
+        return 1;
+    }
+    narrow(number_at(text, after(at)).value)
 }
 
 fn one(person: u64) -> u64 {
@@ -150,27 +159,13 @@ pub(crate) fn allowance_at(text: &[u8], at: usize) -> u32 {
 
 pub(crate) fn skipping(text: &[u8], at: usize) -> Line {
     let asked = policy_at(text, next_word(text, at));
-    let reply = questions::ask_skipping(
-        accounts_at(text, at),
-        asked.task,
-        asked.away,
-        asked.crews,
-        asked.size,
-        allowance_at(text, at),
-    );
+    let reply = questions::ask_skipping(accounts_at(text, at), asked, allowance_at(text, at));
     Line::empty().reply(reply)
 }
 
 pub(crate) fn full(text: &[u8], at: usize) -> Line {
     let asked = policy_at(text, next_word(text, at));
-    let reply = questions::ask_full(
-        accounts_at(text, at),
-        asked.task,
-        asked.away,
-        asked.crews,
-        asked.size,
-        allowance_at(text, at),
-    );
+    let reply = questions::ask_full(accounts_at(text, at), asked, allowance_at(text, at));
     Line::empty().reply(reply)
 }
 
@@ -179,9 +174,7 @@ pub(crate) fn named(text: &[u8], at: usize) -> Line {
     let asked = policy_at(text, next_word(text, at));
     let reply = questions::ask_named(
         accounts_at(text, at),
-        asked.task,
-        asked.crews,
-        asked.size,
+        asked,
         set_at(text, behind(text, at, b"absent")),
         allowance_at(text, at),
     );

@@ -1,7 +1,6 @@
-// A book as cases write it, entry by entry: `count 2 code 10 code 20 count 1 row 101 3 count 1 policy 3 1 2 2`, with `account 101 7 3` for a
-// row that has a person number, `byte 0` for any byte and `cut
-// 13` for the first 13 bytes of what stands before. Some have names: `B`, `listed`, `longest`, `permissions 31` for the codes from 0 to 30, `file
-// weekend.book` for what that file has.
+// A book as cases write it, entry by entry: `count 2 code 10 code 20 count 1 row 101 3 count 1 policy 3 1 2 2`, with `account 101 7 3` for a row that
+// has a person number, `edition 2` behind a policy that has one, `byte 0` for any byte and `cut 13` for the first 13 bytes of what stands before. Some
+// have names: `B`, `listed`, `longest`, `permissions 31` for the codes from 0 to 30, `file weekend.book` for what that file has.
 use crate::draft::Draft;
 use crate::draft::ROOM;
 use crate::draft::b;
@@ -9,11 +8,11 @@ use crate::draft::empty;
 use crate::draft::longest;
 use crate::draft::permissions_to;
 use crate::words::WORDS;
+use crate::words::argument;
 use crate::words::byte_of;
 use crate::words::is_word;
 use crate::words::narrow;
 use crate::words::next_word;
-use crate::words::number_at;
 use crate::words::part;
 use crate::words::word_end;
 ghost use Rattle.io.specs.Counts.{Counts};
@@ -35,18 +34,6 @@ fn book_of_file(name: &[u8]) -> Draft {
         bytes: bytes,
         length: length,
     }
-}
-
-// The number that is the first, second, .. word behind this one.
-pub(crate) fn argument(text: &[u8], at: usize, which: usize) -> u64 {
-    let mut place = at;
-    for i in 0..5 {
-        if i >= which {
-            return number_at(text, place).value;
-        }
-        place = next_word(text, place);
-    }
-    0
 }
 
 // A book that has a name, by which the word that stands here calls it; else the book as it is.
@@ -76,7 +63,7 @@ fn with_entry(book: Draft, text: &[u8], at: usize) -> Draft {
     if is_word(text, at, b"count") {
         return book.count(byte_of(first));
     }
-    if is_word(text, at, b"byte") {
+    if is_word(text, at, b"byte") || is_word(text, at, b"edition") {
         return book.byte(byte_of(first));
     }
     if is_word(text, at, b"code") {

@@ -5,6 +5,7 @@ use crate::books::book_at;
 use crate::books::load;
 use crate::explained;
 use crate::line::Line;
+use crate::listed;
 use crate::pages;
 use crate::parts;
 use crate::reader;
@@ -114,7 +115,7 @@ fn outcome_of(text: &[u8], at: usize) -> Outcome {
         return reader::cuts(text, asked);
     }
     if is_word(text, at, b"all") {
-        return explained::all(text, asked);
+        return listed::all(text, asked);
     }
     if is_word(text, at, b"both") {
         let skipping = asked::skipping(text, asked);

@@ -4,22 +4,22 @@
 //     rpolicy skip|full P s d t EDITION 0 0 0 ALLOWANCE       rnamed P d t ABSENT ALLOWANCE
 // `holders` answers the set of places; questions answer verdict, units, the eight crews, the sites, which are 0 here, and the blocker. Sets are
 // masks. Lines that begin with `#`, and empty ones, are passed over.
-use crate::books::argument;
 use crate::books::load;
 use crate::line::Line;
+use crate::listed;
 use crate::words::after;
+use crate::words::argument;
 use crate::words::behind;
 use crate::words::byte_at;
 use crate::words::is_word;
 use crate::words::line_end;
 use crate::words::narrow;
 use crate::words::next_word;
-use crate::words::number_at;
 use crate::words::part;
+use crate::words::word_behind;
 use live::Outcome;
 use live::Roster;
 use live::Told;
-use roster::Reply;
 
 // No history has more lines.
 const LINES: usize = 1000;
@@ -41,25 +41,6 @@ struct History {
 
 fn wide(n: u32) -> u64 {
     n as u64
-}
-
-fn masks(line: Line, crews: [u64; 8]) -> Line {
-    let mut now = line.number(crews[0]);
-    for i in 1..8 {
-        now = now.byte(b',').number(crews[i]);
-    }
-    now
-}
-
-fn replied(reply: Reply) -> Line {
-    let verdict = reply.verdict;
-    let crews = reply.crews;
-    let line = Line::empty()
-        .verdict(verdict)
-        .byte(b' ')
-        .number(wide(reply.units))
-        .byte(b' ');
-    masks(line, crews).word(b" 0 ").number(reply.blocker)
 }
 
 // What a call answers, and the roster that it leaves.
@@ -91,33 +72,21 @@ fn holders(roster: Roster, permission: u64) -> Line {
     Line::empty().word(b"no such permission")
 }
 
-// The allowance is the eleventh word, seven behind t.
 fn policy(roster: Roster, text: &[u8], at: usize) -> Line {
-    let size = next_word(
-        text,
-        next_word(text, next_word(text, next_word(text, next_word(text, at)))),
-    );
-    let allowance = number(text, next_word(text, size), 4);
-    let task = number(text, at, 2);
-    let away = number(text, at, 3);
-    let crews = argument(text, at, 4) as usize;
-    let most = narrow(number_at(text, size).value);
+    let asked = listed::policy_at(text, word_behind(text, at, 2));
+    let allowance = number(text, at, 10);
     if is_word(text, next_word(text, at), b"full") {
-        return replied(live::ask_full(roster, task, away, crews, most, allowance));
+        return listed::replied(Line::empty(), live::ask_full(roster, asked, allowance));
     }
-    replied(live::ask_skipping(roster, task, away, crews, most, allowance))
+    listed::replied(Line::empty(), live::ask_skipping(roster, asked, allowance))
 }
 
+// Of the first edition.
 fn named(roster: Roster, text: &[u8], at: usize) -> Line {
-    let absent = next_word(text, next_word(text, next_word(text, next_word(text, at))));
-    replied(live::ask_named(
-        roster,
-        number(text, at, 1),
-        argument(text, at, 2) as usize,
-        number(text, at, 3),
-        number_at(text, absent).value,
-        number(text, absent, 1),
-    ))
+    let asked = listed::named_at(text, next_word(text, at), 1);
+    let absent = argument(text, at, 4);
+    let reply = live::ask_named(roster, asked, absent, number(text, at, 5));
+    listed::replied(Line::empty(), reply)
 }
 
 fn question(roster: Roster, text: &[u8], at: usize) -> Line {

@@ -9,6 +9,7 @@ mod draft;
 mod explained;
 mod history;
 mod line;
+mod listed;
 mod pages;
 mod parts;
 mod reader;
@@ -22,6 +23,7 @@ fn main() {
     cases::show_file(b"sheets.cases");
     cases::show_file(b"pages.cases");
     cases::show_file(b"reasons.cases");
+    cases::show_file(b"editions.cases");
     history::show_file(b"a live roster, one history", b"roster-07.txt");
     history::show_file(b"a live roster at its edges", b"roster.history");
     cases::show_file(b"planted.cases");

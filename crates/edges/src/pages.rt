@@ -1,8 +1,8 @@
-// The writer of a book, as cases ask it. `writes VALUES room 61`, with the values entry by entry, `code 10 code 20 row 101 3 policy 3 1 2 2`; `account 101 7 3` is a row with a
-// person number, `persons` and `old` say the form, `codes 33`,
-// `rows 65` and `policies 33` say a count by itself, and `of B` or `of file weekend.book` takes the values of that book. What comes is the length and
-// the bytes, or the number and the place. `again BOOK` reads a book and writes it. Every byte that is not the book's has to be as it was.
-use crate::books::argument;
+// The writer of a book, as cases ask it. `writes VALUES room 61`, with the values entry by entry, `code 10 code 20 row 101 3 policy 3 1 2 2`;
+// `account 101 7 3` is a row with a person number, `edition 2` behind a policy its edition, which is 1 without it, `old`, `persons` and `editions` say
+// the form, `codes 33`, `rows 65` and `policies 33` say a count by itself, and `of B` or `of file weekend.book` takes the values of that
+// book. What comes is the length and the bytes, or the number and the place. `again BOOK` reads a book and writes it. Every byte that is not the book's
+// has to be as it was.
 use crate::books::called;
 use crate::draft::Draft;
 use crate::draft::ROOM;
@@ -12,11 +12,13 @@ use crate::line::Line;
 use crate::reader::bad;
 use crate::words::WORDS;
 use crate::words::after;
+use crate::words::argument;
 use crate::words::behind;
 use crate::words::is_word;
 use crate::words::narrow;
 use crate::words::next_word;
 use crate::words::number_at;
+use crate::words::word_behind;
 use book::Form;
 use book::Row;
 use roster::Policy;
@@ -58,6 +60,22 @@ fn with_policy(values: Values, policy: Policy) -> Values {
     next
 }
 
+// The policy that stands here: `policy 3 1 2 2`, or `policy 3 1 2 2 edition 2`.
+fn policy_at(text: &[u8], at: usize) -> Policy {
+    let has_edition = is_word(text, word_behind(text, at, 5), b"edition");
+    Policy {
+        task: narrow(argument(text, at, 1)),
+        away: narrow(argument(text, at, 2)),
+        crews: argument(text, at, 3) as usize,
+        size: narrow(argument(text, at, 4)),
+        edition: if has_edition {
+            narrow(argument(text, at, 6))
+        } else {
+            1
+        },
+    }
+}
+
 fn values_of(book: Draft) -> Values {
     let bytes = book.bytes;
     values::of_book(front(&bytes, book.length))
@@ -91,15 +109,7 @@ fn with_entry(values: Values, text: &[u8], at: usize) -> Values {
         return with_row(values, row_at(text, at));
     }
     if is_word(text, at, b"policy") {
-        return with_policy(
-            values,
-            Policy {
-                task: narrow(first),
-                away: narrow(argument(text, at, 2)),
-                crews: argument(text, at, 3) as usize,
-                size: narrow(argument(text, at, 4)),
-            },
-        );
+        return with_policy(values, policy_at(text, at));
     }
     if is_word(text, at, b"of") {
         return values_of(called(empty(), text, next_word(text, at)));
@@ -130,6 +140,9 @@ fn with_count(values: Values, text: &[u8], at: usize) -> Values {
     }
     if is_word(text, at, b"persons") {
         return in_form(values, Form::Persons);
+    }
+    if is_word(text, at, b"editions") {
+        return in_form(values, Form::Editions);
     }
     let mut next = values;
     let count = argument(text, at, 1) as usize;

@@ -55,7 +55,7 @@ pub(crate) fn policy_count(text: &[u8], at: usize) -> Line {
     Line::empty().number(book::policy_count(front(&bytes, book.length)) as u64)
 }
 
-// The policy with the index that stands here: P;s,d,t.
+// The policy with the index that stands here: P;s,d,t;E.
 pub(crate) fn policy(text: &[u8], at: usize) -> Line {
     let book = book_at(text, behind(text, at, b"of"));
     let index = number_at(text, at).value as usize;
@@ -68,7 +68,9 @@ pub(crate) fn policy(text: &[u8], at: usize) -> Line {
             .byte(b',')
             .number(found.crews as u64)
             .byte(b',')
-            .number(wide(found.size)),
+            .number(wide(found.size))
+            .byte(b';')
+            .number(wide(found.edition)),
         Listed::NoSuchPolicy => Line::empty().word(b"none"),
     }
 }

@@ -98,6 +98,18 @@ pub(crate) fn behind(text: &[u8], at: usize, word: &[u8]) -> usize {
     place
 }
 
+// The place of the word that is so many behind this one.
+pub(crate) fn word_behind(text: &[u8], at: usize, which: usize) -> usize {
+    let mut place = at;
+    for i in 0..WORDS {
+        if i >= which {
+            return place;
+        }
+        place = next_word(text, place);
+    }
+    place
+}
+
 fn is_digit(byte: u8) -> bool {
     byte >= b'0' && byte <= b'9'
 }
@@ -133,6 +145,11 @@ pub(crate) fn number_at(text: &[u8], at: usize) -> Number {
         value: value,
         next: next,
     }
+}
+
+// The number that is the first, second, .. word behind this one.
+pub(crate) fn argument(text: &[u8], at: usize, which: usize) -> u64 {
+    number_at(text, word_behind(text, at, which)).value
 }
 
 // A number as a smaller type; the largest of it where it is past that.

@@ -8,6 +8,7 @@ use lib.ListN.{length, drop}
 use Rattle.roster.specs.declared.Policy.{Policy}
 use Rattle.roster.specs.declared.Reply.{Reply}
 use Rattle.absences.specs.Tried.{Way, skipping}
+use Rattle.accounts.specs.declared.Accounts.{Accounts}
 use Rattle.accounts.specs.Persons.{peopleOf}
 use Rattle.questions.specs.Replied.{policyAnswerOf}
 use Rattle.book.specs.Faults.{faultNumber}
@@ -34,8 +35,12 @@ numbersIn book = peopleOf (accountsIn book) .numbers
 abbrev pub way : Way
 way = skipping
 
+-- the reply to a policy over these accounts, and over those of a book
+abbrev pub answerTo : Accounts → Policy → Reply
+answerTo accounts p = policyAnswerOf way accounts (p .task) (p .away) (p .crews) (p .size) (p .edition) allowance
+
 unfoldable pub replyTo : List ℕ → Policy → Reply
-replyTo book p = policyAnswerOf way (accountsIn book) (p .task) (p .away) (p .crews) (p .size) allowance
+replyTo book p = answerTo (accountsIn book) p
 
 -- the line of the policy with this index
 unfoldable pub lineBy : List ℕ → ℕ → Listed → List ℕ
@@ -61,7 +66,7 @@ longest = 23232
 
 -- so many bytes of a string decide its sheet (`sheet-front`): one more than the longest book has
 abbrev pub enough : ℕ
-enough = 1061
+enough = 1093
 
 -- What is promised: where the buffer is long enough for any sheet, this book's sheet stands at its front, and the rest of it is as it was; a
 -- shorter buffer is answered as too short and is as it was.

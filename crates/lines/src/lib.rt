@@ -11,17 +11,16 @@ use roster::Verdict;
 ghost use mathlib.Core.Path.{_≡_};
 ghost use lib.ListN.{length};
 ghost use Rattle.roster.specs.Limits.{crewLimit};
-ghost use Rattle.questions.specs.Asked.{PolicyAsked};
-ghost use Rattle.questions.specs.Replied.{policyAnswerOf};
+ghost use Rattle.questions.specs.Asked.{PolicyAskedFor};
 ghost use Rattle.book.specs.Parts.{accountsIn, policyCount, policyAt};
 ghost use Rattle.text.specs.Text.{Appended};
 ghost use Rattle.lines.specs.Lines.{verdictWord, lineOf, badLine};
-ghost use Rattle.lines.specs.Sheet.{allowance, way, numbersIn, lineBy, linesFrom, longest, enough, Promised};
+ghost use Rattle.lines.specs.Sheet.{allowance, way, answerTo, numbersIn, lineBy, linesFrom, longest, enough, Promised};
 
 // No sheet is longer: 32 lines of at most 726 bytes each.
 pub const LONGEST: usize = 23232;
 // So many bytes of an input decide its sheet: one more than the longest book has.
-pub const ENOUGH: usize = 1061;
+pub const ENOUGH: usize = 1093;
 // The units that each policy may take.
 pub const ALLOWANCE: u32 = 1000000;
 
@@ -74,10 +73,10 @@ fn bad_line(out: &mut [u8], fault: u32, place: usize) -> usize
 }
 
 // The reply to a policy, by the search that skips and with the whole allowance.
-fn reply_of(accounts: Accounts, task: u32, away: u32, crews: usize, size: u32) -> Reply
-    ensures { λ r. ⌜ PolicyAsked way accounts task away crews size allowance r ⌝ }
+fn reply_of(accounts: Accounts, policy: Policy) -> Reply
+    ensures { λ r. ⌜ PolicyAskedFor way accounts policy allowance r ⌝ }
 {
-    questions::ask_skipping(accounts, task, away, crews, size, ALLOWANCE)
+    questions::ask_skipping(accounts, policy, ALLOWANCE)
 }
 
 // A policy is asked, and the line of its reply is written.
@@ -87,14 +86,11 @@ fn asked(
     numbers: &[u32; Policy::ROWS],
     index: usize,
     accounts: Accounts,
-    task: u32,
-    away: u32,
-    crews: usize,
-    size: u32,
+    policy: Policy,
 ) -> usize
-    ensures { λ r. ⌜ Appended (lineOf (now (numbers .entry)) index (policyAnswerOf way accounts task away crews size allowance)) (now (out .entry)) at (now (out .exit)) r ⌝ }
+    ensures { λ r. ⌜ Appended (lineOf (now (numbers .entry)) index (answerTo accounts policy)) (now (out .entry)) at (now (out .exit)) r ⌝ }
 {
-    let reply = reply_of(accounts, task, away, crews, size);
+    let reply = reply_of(accounts, policy);
     line(out, at, numbers, index, reply)
 }
 
@@ -111,17 +107,7 @@ fn policy_line(
     ensures { λ r. ⌜ Appended (lineBy (now (book .entry)) index (policyAt (now (book .entry)) index)) (now (out .entry)) at (now (out .exit)) r ⌝ }
 {
     match book::policy_at(book, index) {
-        Listed::Policy(policy) => asked(
-            out,
-            at,
-            numbers,
-            index,
-            accounts,
-            policy.task,
-            policy.away,
-            policy.crews,
-            policy.size,
-        ),
+        Listed::Policy(policy) => asked(out, at, numbers, index, accounts, policy),
         Listed::NoSuchPolicy => at,
     }
 }

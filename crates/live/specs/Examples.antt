@@ -10,9 +10,9 @@ use Rattle.sets.specs.Sums.{sumTo, toN}
 use Rattle.sets.specs.Members.{cons?, members, filter, hasb, setOf}
 use Rattle.sets.specs.Arrays.{tabulate}
 use Rattle.roster.specs.declared.Table.{Table}
-use Rattle.roster.specs.Meaning.{outweighsb, ahead, rank}
+use Rattle.roster.specs.Meaning.{leastMembers, outweighsb, ahead, rank}
 use Rattle.roster.specs.Refusals.{policyRuling, namedRuling}
-use Rattle.crews.specs.Filling.{placeOf, closeOf, placedOf, candidates, tryEach, search}
+use Rattle.crews.specs.Filling.{placeOf, closeOf, closesOf, placedOf, poolOf, candidates, tryEach, search}
 use Rattle.absences.specs.Tried.{rowFrom, full, skipping, joins, listed, sizesFrom, weighed}
 use Rattle.absences.specs.Replied.{policyReplyOf}
 use Rattle.absences.specs.Examples.{Example, policy, named, H, tableOf as tableWith, setOfRows, yes-with, no-with, crews-with, none-with, ample}
@@ -132,13 +132,14 @@ day =
 -- what is asked on the way: sets speak of the table's rows
 abbrev pub asked : List Example
 asked =
-    record { question = policy skipping (tableOf four) 3 1 2 2 ample; reply = yes-with ((0 ∷ []) ∷ (1 ∷ 2 ∷ []) ∷ []) 8 }
-    ∷ record { question = policy full (tableOf four) 3 1 2 2 ample; reply = yes-with ((0 ∷ []) ∷ (1 ∷ 2 ∷ []) ∷ []) 19 }
-    ∷ record { question = policy skipping (tableOf four) 3 2 2 2 ample; reply = no-with (0 ∷ 3 ∷ []) 11 }
-    ∷ record { question = policy skipping (tableOf three) 3 0 1 1 ample; reply = yes-with ((2 ∷ []) ∷ []) 3 }
-    ∷ record { question = policy skipping (tableOf three) 3 0 1 2 ample; reply = yes-with ((0 ∷ 1 ∷ []) ∷ []) 3 }
-    ∷ record { question = named (tableOf three) 3 1 2 (setOfRows (0 ∷ [])) ample; reply = crews-with ((2 ∷ []) ∷ []) 1 }
-    ∷ record { question = named (tableOf three) 3 2 2 (setOfRows (2 ∷ [])) ample; reply = none-with 2 }
+    record { question = policy skipping (tableOf four) 3 1 2 2 1 ample; reply = yes-with ((0 ∷ []) ∷ (1 ∷ 2 ∷ []) ∷ []) 8 }
+    ∷ record { question = policy full (tableOf four) 3 1 2 2 1 ample; reply = yes-with ((0 ∷ []) ∷ (1 ∷ 2 ∷ []) ∷ []) 19 }
+    ∷ record { question = policy skipping (tableOf four) 3 2 2 2 1 ample; reply = no-with (0 ∷ 3 ∷ []) 11 }
+    ∷ record { question = policy skipping (tableOf four) 3 1 2 2 2 ample; reply = no-with (0 ∷ []) 13 }
+    ∷ record { question = policy skipping (tableOf three) 3 0 1 1 1 ample; reply = yes-with ((2 ∷ []) ∷ []) 3 }
+    ∷ record { question = policy skipping (tableOf three) 3 0 1 2 1 ample; reply = yes-with ((0 ∷ 1 ∷ []) ∷ []) 3 }
+    ∷ record { question = named (tableOf three) 3 1 2 1 (setOfRows (0 ∷ [])) ample; reply = crews-with ((2 ∷ []) ∷ []) 1 }
+    ∷ record { question = named (tableOf three) 3 2 2 1 (setOfRows (2 ∷ [])) ample; reply = none-with 2 }
     ∷ []
 
 -- 64 places full: 23 before 24, and the place that is left is used again
@@ -160,5 +161,5 @@ pub examples-hold : (map (λ (p : Part). told (p .before) (p .turns)) day ≡ ma
     × AllAllowed asked
     × (told empty crowd ≡ map Turn.answer crowd)
     × (getD (ran empty crowd .holders) 31 0 ≡ 2 ^ 40)
-unfolding bit sumTo toN cons? members filter hasb setOf tabulate ones onesIn trailingZeros ahead rank outweighsb placeOf closeOf placedOf candidates tryEach search rowFrom joins listed sizesFrom weighed policyRuling namedRuling policyReplyOf firstFrom toldOf tableOf
+unfolding bit sumTo toN cons? members filter hasb setOf tabulate ones onesIn trailingZeros ahead rank outweighsb leastMembers placeOf closeOf closesOf placedOf poolOf candidates tryEach search rowFrom joins listed sizesFrom weighed policyRuling namedRuling policyReplyOf firstFrom toldOf tableOf
 examples-hold = (refl, refl, refl, refl, all-allowed asked refl refl, refl, refl)

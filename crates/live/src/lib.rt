@@ -9,8 +9,8 @@ ghost use Prim.Native.Nat.{_<_};
 ghost use Rattle.sets.specs.Sets.{with, less};
 ghost use Rattle.roster.specs.Limits.{rowLimit};
 ghost use Rattle.absences.specs.Tried.{full, skipping};
-ghost use Rattle.absences.specs.Asked.{PolicyReply};
-ghost use Rattle.crews.specs.Named.{NamedReply};
+ghost use Rattle.absences.specs.Asked.{PolicyReplyFor};
+ghost use Rattle.crews.specs.Named.{NamedReplyFor};
 ghost use Rattle.live.specs.Numbers.{objectionNumber};
 ghost use Rattle.live.specs.Changes.{hire, leave, grant, revoke, toldOf, empty, refusing, done, gatheredOf, tableOf};
 ghost use Rattle.live.specs.Changes.{placeIn, freeIn, hiredAt, clearedOf, leftAt, grantedAt, revokedAt, turnedAt, changedBy};
@@ -324,43 +324,22 @@ impl Roster {
 }
 
 // A policy asked of the roster's table, by the search that skips.
-pub fn ask_skipping(
-    roster: Roster,
-    task: u32,
-    away: u32,
-    crews: usize,
-    size: u32,
-    allowance: u32,
-) -> Reply
-    ensures { λ r. ⌜ PolicyReply skipping (tableOf roster) task away crews size allowance r ⌝ }
+pub fn ask_skipping(roster: Roster, policy: Policy, allowance: u32) -> Reply
+    ensures { λ r. ⌜ PolicyReplyFor skipping (tableOf roster) policy allowance r ⌝ }
 {
-    absences::ask_skipping(roster.table(), task, away, crews, size, allowance)
+    absences::ask_skipping(roster.table(), policy, allowance)
 }
 
 // The same by the search that tries every absence.
-pub fn ask_full(
-    roster: Roster,
-    task: u32,
-    away: u32,
-    crews: usize,
-    size: u32,
-    allowance: u32,
-) -> Reply
-    ensures { λ r. ⌜ PolicyReply full (tableOf roster) task away crews size allowance r ⌝ }
+pub fn ask_full(roster: Roster, policy: Policy, allowance: u32) -> Reply
+    ensures { λ r. ⌜ PolicyReplyFor full (tableOf roster) policy allowance r ⌝ }
 {
-    absences::ask_full(roster.table(), task, away, crews, size, allowance)
+    absences::ask_full(roster.table(), policy, allowance)
 }
 
 // A named absence asked of the roster's table: `absent` is a set of that table's rows.
-pub fn ask_named(
-    roster: Roster,
-    task: u32,
-    crews: usize,
-    size: u32,
-    absent: u64,
-    allowance: u32,
-) -> Reply
-    ensures { λ r. ⌜ NamedReply (tableOf roster) task crews size absent allowance r ⌝ }
+pub fn ask_named(roster: Roster, policy: Policy, absent: u64, allowance: u32) -> Reply
+    ensures { λ r. ⌜ NamedReplyFor (tableOf roster) policy absent allowance r ⌝ }
 {
-    crews::ask_named(roster.table(), task, crews, size, absent, allowance)
+    crews::ask_named(roster.table(), policy, absent, allowance)
 }

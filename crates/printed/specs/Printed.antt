@@ -20,12 +20,12 @@ use Rattle.printed.specs.Laws.Lines.{number-parted}
 use Rattle.printed.specs.Laws.Said.{line-policy, yes-exactly, no-names, undecided-exactly}
 
 module _ (book : List ℕ) (bytes : Bytes book) (i : ℕ) where
-  -- `i yes ..`: whoever is away, as long as they are at most s, there are still d separate crews of at most t persons, each holding every permission
-  -- of the task by some account of theirs, and nobody who is away is in one of them.
+  -- `i yes ..`: whoever is away, as long as they are at most s, there are still d separate crews of at most t persons, and of at least as many as the
+  -- policy's edition asks, each holding every permission of the task by some account of theirs, and nobody who is away is in one of them.
   pub printed-yes : (rest : List ℕ) → HasLine (sheetOf book) (decimal i ␣ quoted "yes" ␣ rest)
       → (v : Contents) × (p : Policy) × PolicyOf book i v p
       × ((A : ℕ) → A < 2 ^ persons (accountsFor v) → ones A ≤ p .away
-      → (crews : List ℕ) × PersonCrews (accountsFor v) (p .task) (p .crews) (p .size) A crews)
+      → (crews : List ℕ) × PersonCrews (accountsFor v) (p .task) (p .crews) (p .size) (p .edition) A crews)
   printed-yes rest line =
       let (v, p, o) = line-policy book bytes i _ line in
       let lists = yes-exactly book i v p o .0 (rest, line) .1 in (
@@ -34,7 +34,7 @@ module _ (book : List ℕ) (bytes : Bytes book) (i : ℕ) where
         o,
         λ A wide few.
             let (crews, list) = lists A (record { rows = wide; few = few }) in
-            (crews, crews-of-persons (accountsFor v) (p .task) (p .crews) (p .size) A crews .0 list),
+            (crews, crews-of-persons (accountsFor v) (p .task) (p .crews) (p .size) (p .edition) A crews .0 list),
       )
 
   -- `i no u NAMES`: with exactly these persons away, who are at most s, there are no such crews; and they are the first such absence. NAMES are their
@@ -42,12 +42,12 @@ module _ (book : List ℕ) (bytes : Bytes book) (i : ℕ) where
   pub printed-no : (units : ℕ) (names : List ℕ) → HasLine (sheetOf book) (decimal i ␣ quoted "no" ␣ decimal units ␣ names)
       → (v : Contents) × (p : Policy) × PolicyOf book i v p
       × (A : ℕ) × (names ≡ namesOf v A) × (A < 2 ^ persons (accountsFor v)) × (ones A ≤ p .away)
-      × PersonsBlock (accountsFor v) (p .task) (p .crews) (p .size) A
-      × FirstPersonsBlock (accountsFor v) (p .task) (p .away) (p .crews) (p .size) A
+      × PersonsBlock (accountsFor v) (p .task) (p .crews) (p .size) (p .edition) A
+      × FirstPersonsBlock (accountsFor v) (p .task) (p .away) (p .crews) (p .size) (p .edition) A
   printed-no units names line =
       let (v, p, o) = line-policy book bytes i _ line in
       let (A, blocker, said) = no-names book i v p o (decimal units ␣ names) line in
-      let first = first-of-persons (accountsFor v) (p .task) (p .away) (p .crews) (p .size) A blocker in
+      let first = first-of-persons (accountsFor v) (p .task) (p .away) (p .crews) (p .size) (p .edition) A blocker in
       (v, p, o, A, number-parted units (needOf v p) names (namesOf v A) said .1, first .rows, first .is .0, first .is .1, first)
 
   -- `i undecided ..`: deciding it takes more than 1,000,000 units. It says neither yes nor no.

@@ -32,15 +32,15 @@ pub record PolicyOf (book : List ℕ) (i : ℕ) (v : Contents) (p : Policy) : Ty
 
 -- the units that deciding it takes
 abbrev pub needOf : Contents → Policy → ℕ
-needOf v p = needPolicy skipping (tableFor v) (p .task) (p .away) (p .crews) (p .size)
+needOf v p = needPolicy skipping (tableFor v) (p .task) (p .away) (p .crews) (p .size) (p .edition)
 
 -- what may be replied to it, by the search that skips and with the whole allowance
 abbrev pub MayReply : Contents → Policy → Reply → Type 0
-MayReply v p = PolicyReply skipping (tableFor v) (p .task) (p .away) (p .crews) (p .size) allowance
+MayReply v p = PolicyReply skipping (tableFor v) (p .task) (p .away) (p .crews) (p .size) (p .edition) allowance
 
 -- "the first list with nobody absent": the d crews that are printed with a yes
 abbrev pub firstCrews : Contents → Policy → List ℕ
-firstCrews v p = take (p .crews) (firstList (tableFor v) (p .task) (p .crews) (p .size) 0)
+firstCrews v p = take (p .crews) (firstList (tableFor v) (p .task) (p .crews) (p .size) (p .edition) 0)
 
 -- the sheet has a line `i WORD ..`
 abbrev pub Prints : List ℕ → ℕ → List ℕ → Type 0
@@ -54,11 +54,12 @@ pub record ReplyOver (n : ℕ) (r : Reply) : Type 0 where
   pub away : ℕ
   pub crews : ℕ
   pub size : ℕ
+  pub edition : ℕ
   pub allowance : ℕ
   pub few : table .rows ≤ n
   pub wide : task < 2 ^ 32
-  pub admitted : Admits table task away crews size
-  pub allowed : PolicyReply way table task away crews size allowance r
+  pub admitted : Admits table task away crews size edition
+  pub allowed : PolicyReply way table task away crews size edition allowance r
 
 -- ---- names
 

@@ -3,3 +3,5 @@ pub mod Behind
 pub mod Replies
 -- what a reply tells of accounts, and that both searches tell the same
 pub mod Demands
+-- what a reply under one edition tells of the other
+pub mod Editions

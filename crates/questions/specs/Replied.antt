@@ -18,8 +18,8 @@ abbrev pub behind : Ruling → Reply → Reply
 behind ruling.Admitted r = r
 behind (ruling.Refused refusal) r = replyWith noCrews 0 0 0 (Refused refusal)
 
-abbrev pub policyAnswerOf : Way → Accounts → (P s d t allowance : ℕ) → Reply
-policyAnswerOf way a P s d t allowance = behind (accountsRuling a) (policyReplyOf way (merged a) P s d t allowance)
+abbrev pub policyAnswerOf : Way → Accounts → (P s d t ed allowance : ℕ) → Reply
+policyAnswerOf way a P s d t ed allowance = behind (accountsRuling a) (policyReplyOf way (merged a) P s d t ed allowance)
 
-abbrev pub namedAnswerOf : Accounts → (P d t A allowance : ℕ) → Reply
-namedAnswerOf a P d t A allowance = behind (accountsRuling a) (namedReplyOf (merged a) P d t A allowance)
+abbrev pub namedAnswerOf : Accounts → (P d t ed A allowance : ℕ) → Reply
+namedAnswerOf a P d t ed A allowance = behind (accountsRuling a) (namedReplyOf (merged a) P d t ed A allowance)

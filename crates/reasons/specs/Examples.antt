@@ -13,9 +13,10 @@ use Rattle.sets.specs.Sums.{sumTo, toN}
 use Rattle.sets.specs.Members.{cons?, members, filter, hasb, setOf}
 use Rattle.sets.specs.Arrays.{tabulate}
 use Rattle.roster.specs.declared.Refusal.the-variants as refusal
+use Rattle.roster.specs.Meaning.{leastMembers}
 use Rattle.roster.specs.Refusals.{policyRuling}
 use Rattle.roster.specs.Examples.{setOfRows}
-use Rattle.crews.specs.Filling.{placeOf, closeOf, placedOf, candidates, tryEach, search}
+use Rattle.crews.specs.Filling.{placeOf, closeOf, closesOf, placedOf, poolOf, candidates, tryEach, search}
 use Rattle.accounts.specs.declared.Accounts.{Accounts}
 use Rattle.accounts.specs.Persons.{first, unionTo, firstOf, leads, countOf, personOf, heldBy}
 use Rattle.accounts.specs.Examples.{accountsWith}
@@ -29,9 +30,9 @@ use Rattle.reasons.specs.Laws.Replies.{why-allowed}
 
 -- ---- how the table is written
 
--- "H, P 3, d 2, t 2, absent {0,3}" is `why H 3 2 2 (0 ∷ 3 ∷ []) ample`
+-- "H, P 3, d 2, t 2, absent {0,3}" is `why H 3 2 2 1 (0 ∷ 3 ∷ []) ample`, with edition 1
 pub data Question : Type 0 where
-  why : Accounts → (P d t : ℕ) (absent : List ℕ) (allowance : ℕ) → Question
+  why : Accounts → (P d t ed : ℕ) (absent : List ℕ) (allowance : ℕ) → Question
 
 -- the answer, its published number and the units
 pub record Example : Type 0 where
@@ -65,41 +66,47 @@ mixed = accountsWith (1 ∷ 2 ∷ 2 ∷ 1 ∷ 3 ∷ []) (7 ∷ 9 ∷ 7 ∷ 9 ∷
 abbrev pub rows : List Example
 rows =
     -- too few present holders, and the same with one of them back
-    record { question = why H 3 2 2 (0 ∷ 3 ∷ []) ample; answer = Scarce 0; number = 1; units = 2 }
-    ∷ record { question = why H 3 2 2 (0 ∷ []) ample; answer = Nothing; number = 0; units = 3 }
+    record { question = why H 3 2 2 1 (0 ∷ 3 ∷ []) ample; answer = Scarce 0; number = 1; units = 2 }
+    ∷ record { question = why H 3 2 2 1 (0 ∷ []) ample; answer = Nothing; number = 0; units = 3 }
     -- just enough holders of each, and single crews, but not three of one
-    ∷ record { question = why H 3 3 1 [] ample; answer = Overlap; number = 3; units = 5 }
-    ∷ record { question = why H 3 3 1 [] 5; answer = Overlap; number = 3; units = 5 }
-    ∷ record { question = why H 3 3 1 [] 4; answer = Undecided; number = 0; units = 4 }
+    ∷ record { question = why H 3 3 1 1 [] ample; answer = Overlap; number = 3; units = 5 }
+    ∷ record { question = why H 3 3 1 1 [] 5; answer = Overlap; number = 3; units = 5 }
+    ∷ record { question = why H 3 3 1 1 [] 4; answer = Undecided; number = 0; units = 4 }
     -- undecided although the reason could be told at once
-    ∷ record { question = why H 3 5 2 [] ample; answer = Scarce 0; number = 1; units = 13 }
-    ∷ record { question = why H 3 5 2 [] 12; answer = Undecided; number = 0; units = 12 }
+    ∷ record { question = why H 3 5 2 1 [] ample; answer = Scarce 0; number = 1; units = 13 }
+    ∷ record { question = why H 3 5 2 1 [] 12; answer = Undecided; number = 0; units = 12 }
     -- no crew of two; and where a permission is scarce too, that comes first
-    ∷ record { question = why M 63 1 2 [] ample; answer = NoCrew; number = 2; units = 6 }
-    ∷ record { question = why M 63 1 3 (0 ∷ 1 ∷ []) ample; answer = Scarce 0; number = 1; units = 0 }
-    ∷ record { question = why M 63 1 3 [] ample; answer = Nothing; number = 0; units = 3 }
+    ∷ record { question = why M 63 1 2 1 [] ample; answer = NoCrew; number = 2; units = 6 }
+    ∷ record { question = why M 63 1 3 1 (0 ∷ 1 ∷ []) ample; answer = Scarce 0; number = 1; units = 0 }
+    ∷ record { question = why M 63 1 3 1 [] ample; answer = Nothing; number = 0; units = 3 }
     -- the units of the second filling are not counted
-    ∷ record { question = why (eachRow (1 ∷ 2 ∷ 1 ∷ 2 ∷ [])) 3 2 1 [] ample; answer = NoCrew; number = 2; units = 2 }
-    ∷ record { question = why (eachRow (3 ∷ 5 ∷ 6 ∷ 3 ∷ 5 ∷ 6 ∷ [])) 7 2 1 [] ample; answer = NoCrew; number = 2; units = 4 }
+    ∷ record { question = why (eachRow (1 ∷ 2 ∷ 1 ∷ 2 ∷ [])) 3 2 1 1 [] ample; answer = NoCrew; number = 2; units = 2 }
+    ∷ record { question = why (eachRow (3 ∷ 5 ∷ 6 ∷ 3 ∷ 5 ∷ 6 ∷ [])) 7 2 1 1 [] ample; answer = NoCrew; number = 2; units = 4 }
     -- the lowest that is scarce, neither the lowest of the task nor the highest; and none outside the task
-    ∷ record { question = why (eachRow (1 ∷ 3 ∷ 4 ∷ [])) 7 2 3 [] ample; answer = Scarce 1; number = 1; units = 5 }
-    ∷ record { question = why (eachRow (2 ∷ 2 ∷ [])) 6 2 1 [] ample; answer = Scarce 2; number = 1; units = 2 }
+    ∷ record { question = why (eachRow (1 ∷ 3 ∷ 4 ∷ [])) 7 2 3 1 [] ample; answer = Scarce 1; number = 1; units = 5 }
+    ∷ record { question = why (eachRow (2 ∷ 2 ∷ [])) 6 2 1 1 [] ample; answer = Scarce 2; number = 1; units = 2 }
+    -- edition 2: no crew of one; single crews of two but not two of them; and a permission that is scarce, whoever else is free
+    ∷ record { question = why H 3 1 1 2 [] ample; answer = NoCrew; number = 2; units = 3 }
+    ∷ record { question = why (eachRow (1 ∷ 1 ∷ 1 ∷ [])) 1 2 2 2 [] ample; answer = Overlap; number = 3; units = 12 }
+    ∷ record { question = why (eachRow (1 ∷ 1 ∷ 1 ∷ [])) 1 2 2 2 [] 11; answer = Undecided; number = 0; units = 11 }
+    ∷ record { question = why (eachRow (1 ∷ 0 ∷ 0 ∷ [])) 1 2 2 2 [] ample; answer = Scarce 0; number = 1; units = 3 }
     -- refused as the named question is
-    ∷ record { question = why H 3 2 2 (4 ∷ []) ample; answer = Refused refusal.Absence; number = 0; units = 0 }
-    ∷ record { question = why H 0 2 2 [] ample; answer = Refused refusal.Task; number = 0; units = 0 }
-    ∷ record { question = why H 3 9 2 [] ample; answer = Refused refusal.Crews; number = 0; units = 0 }
-    ∷ record { question = why H 3 2 65 [] 0; answer = Refused refusal.Size; number = 0; units = 0 }
+    ∷ record { question = why H 3 2 2 1 (4 ∷ []) ample; answer = Refused refusal.Absence; number = 0; units = 0 }
+    ∷ record { question = why H 3 2 2 3 (4 ∷ []) ample; answer = Refused refusal.Edition; number = 0; units = 0 }
+    ∷ record { question = why H 0 2 2 1 [] ample; answer = Refused refusal.Task; number = 0; units = 0 }
+    ∷ record { question = why H 3 9 2 1 [] ample; answer = Refused refusal.Crews; number = 0; units = 0 }
+    ∷ record { question = why H 3 2 65 1 [] 0; answer = Refused refusal.Size; number = 0; units = 0 }
     ∷ []
 
 -- holders and crews are persons
 abbrev pub people : List Example
 people =
-    record { question = why pair 3 2 1 [] ample; answer = Nothing; number = 0; units = 2 }
-    ∷ record { question = why (eachRow (1 ∷ 2 ∷ 3 ∷ [])) 3 2 1 [] ample; answer = Overlap; number = 3; units = 2 }
-    ∷ record { question = why pair 3 3 2 [] ample; answer = Scarce 0; number = 1; units = 3 }
-    ∷ record { question = why mixed 3 3 1 (0 ∷ []) ample; answer = Scarce 0; number = 1; units = 3 }
-    ∷ record { question = why pair 3 1 1 (2 ∷ []) ample; answer = Refused refusal.Absence; number = 0; units = 0 }
-    ∷ record { question = why (accountsWith [] [] 65) 3 1 1 [] ample; answer = Refused refusal.Rows; number = 0; units = 0 }
+    record { question = why pair 3 2 1 1 [] ample; answer = Nothing; number = 0; units = 2 }
+    ∷ record { question = why (eachRow (1 ∷ 2 ∷ 3 ∷ [])) 3 2 1 1 [] ample; answer = Overlap; number = 3; units = 2 }
+    ∷ record { question = why pair 3 3 2 1 [] ample; answer = Scarce 0; number = 1; units = 3 }
+    ∷ record { question = why mixed 3 3 1 1 (0 ∷ []) ample; answer = Scarce 0; number = 1; units = 3 }
+    ∷ record { question = why pair 3 1 1 1 (2 ∷ []) ample; answer = Refused refusal.Absence; number = 0; units = 0 }
+    ∷ record { question = why (accountsWith [] [] 65) 3 1 1 1 [] ample; answer = Refused refusal.Rows; number = 0; units = 0 }
     ∷ []
 
 abbrev pub examples : List Example
@@ -109,7 +116,7 @@ examples = rows ++ people
 
 -- the contract allows the answer with these units
 abbrev pub Allowed : Question → Explained → Type 0
-Allowed (why a P d t absent allowance) r = WhyReply a P d t (setOfRows absent) allowance r
+Allowed (why a P d t ed absent allowance) r = WhyReply a P d t ed (setOfRows absent) allowance r
 
 abbrev pub AllAllowed : List Example → Type 0
 AllAllowed [] = Unit {0}
@@ -117,14 +124,14 @@ AllAllowed (e ∷ rest) = Allowed (e .question) (explainedWith (e .answer) (e .u
 
 -- what the definition replies
 abbrev pub replyOf : Question → Explained
-replyOf (why a P d t absent allowance) = whyReplyOf a P d t (setOfRows absent) allowance
+replyOf (why a P d t ed absent allowance) = whyReplyOf a P d t ed (setOfRows absent) allowance
 
 -- the task has 32 bits
 abbrev narrow : Question → Bool
-narrow (why a P d t absent allowance) = ltb P (2 ^ 32)
+narrow (why a P d t ed absent allowance) = ltb P (2 ^ 32)
 
 allowed : (q : Question) → narrow q ≡ true → Allowed q (replyOf q)
-allowed (why a P d t absent allowance) wide = why-allowed a P d t (setOfRows absent) allowance (ltb-true P (2 ^ 32) wide)
+allowed (why a P d t ed absent allowance) wide = why-allowed a P d t ed (setOfRows absent) allowance (ltb-true P (2 ^ 32) wide)
 
 -- where the definition gives the replies and numbers of a list, they are allowed
 all-allowed : (l : List Example) → map (λ (e : Example). replyOf (e .question)) l ≡ map (λ (e : Example). explainedWith (e .answer) (e .units)) l
@@ -137,5 +144,5 @@ all-allowed (e ∷ rest) r n w =
 
 -- each reply of the table is the one allowed, and each number the one published
 pub examples-hold : AllAllowed examples
-unfolding bit sumTo toN cons? members filter hasb setOf ones onesIn trailingZeros placeOf closeOf placedOf candidates tryEach search policyRuling first unionTo firstOf leads countOf personOf heldBy tabulate scarceIn
+unfolding bit sumTo toN cons? members filter hasb setOf ones onesIn trailingZeros leastMembers placeOf closeOf closesOf placedOf poolOf candidates tryEach search policyRuling first unionTo firstOf leads countOf personOf heldBy tabulate scarceIn
 examples-hold = all-allowed examples refl refl refl

@@ -41,9 +41,9 @@ ReasonBy IsScarce Single NoSingle Blocked explanation.Undecided = ⊥
 ReasonBy IsScarce Single NoSingle Blocked (explanation.Refused refusal) = ⊥
 
 -- the reason why A blocks
-abbrev pub Reason : Table → (P d t A : ℕ) → Explanation → Type 0
-Reason table P d t A =
-    ReasonBy (Scarce table P d A) ((crew : List ℕ) × CrewList table P 1 t A crew) (Blocks table P 1 t A) (Blocks table P d t A)
+abbrev pub Reason : Table → (P d t ed A : ℕ) → Explanation → Type 0
+Reason table P d t ed A =
+    ReasonBy (Scarce table P d A) ((crew : List ℕ) × CrewList table P 1 t ed A crew) (Blocks table P 1 t ed A) (Blocks table P d t ed A)
 
 -- the published numbers; 0 where no reason is given
 abbrev pub reasonNumber : Explanation → ℕ

@@ -34,8 +34,8 @@ reasonBy lowest o =
       | false ↦ elim (o .found) [ true ↦ Overlap | false ↦ NoCrew ]
     ]
 
-abbrev pub reasonOf : Table → (P d t A : ℕ) → Explanation
-reasonOf table P d t A = reasonBy (lowestScarce table P d A) (filling table P 1 t A)
+abbrev pub reasonOf : Table → (P d t ed A : ℕ) → Explanation
+reasonOf table P d t ed A = reasonBy (lowestScarce table P d A) (filling table P 1 t ed A)
 
 -- the reply under this ruling and allowance, where filling comes to o and the reason is this one
 abbrev pub explainedBy : Ruling → ℕ → Outcome → Explanation → Explained
@@ -46,6 +46,6 @@ explainedBy ruling.Admitted allowance o reason =
       | false ↦ explainedWith Undecided allowance
     ]
 
-abbrev pub whyReplyOf : Accounts → (P d t A allowance : ℕ) → Explained
-whyReplyOf a P d t A allowance =
-    explainedBy (personsRuling a P d t A) allowance (filling (merged a) P d t A) (reasonOf (merged a) P d t A)
+abbrev pub whyReplyOf : Accounts → (P d t ed A allowance : ℕ) → Explained
+whyReplyOf a P d t ed A allowance =
+    explainedBy (personsRuling a P d t ed A) allowance (filling (merged a) P d t ed A) (reasonOf (merged a) P d t ed A)

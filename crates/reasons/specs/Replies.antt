@@ -3,6 +3,7 @@
 use mathlib.Core.Path.{_≡_}
 use mathlib.Core.List.{List}
 use Prim.Native.Nat.{ℕ, _≤_, _<_}
+use Rattle.roster.specs.declared.Policy.{Policy}
 use Rattle.roster.specs.declared.Refusal.{Refusal}
 use Rattle.roster.specs.declared.Ruling.the-variants as ruling
 use Rattle.roster.specs.Meaning.{CrewList, Blocks}
@@ -19,17 +20,21 @@ abbrev pub explainedWith : Explanation → ℕ → Explained
 explainedWith why units = record { why = why; units = units }
 
 -- the need of the named question
-abbrev pub needWhy : Accounts → (P d t A : ℕ) → ℕ
-needWhy a P d t A = needNamed (merged a) P d t A
+abbrev pub needWhy : Accounts → (P d t ed A : ℕ) → ℕ
+needWhy a P d t ed A = needNamed (merged a) P d t ed A
 
-pub record WhyReply (a : Accounts) (P d t A allowance : ℕ) (r : Explained) : Type 0 where
-  -- "Refusals: 1 to 6 as there"
-  pub refused : (refusal : Refusal) → personsRuling a P d t A ≡ ruling.Refused refusal → r ≡ explainedWith (explanation.Refused refusal) 0
+pub record WhyReply (a : Accounts) (P d t ed A allowance : ℕ) (r : Explained) : Type 0 where
+  -- "Refusals: 1 to 6 as there", and 25
+  pub refused : (refusal : Refusal) → personsRuling a P d t ed A ≡ ruling.Refused refusal → r ≡ explainedWith (explanation.Refused refusal) 0
   -- "It takes an allowance as the named-absence question does"
-  pub undecided : personsRuling a P d t A ≡ ruling.Admitted → allowance < needWhy a P d t A → r ≡ explainedWith explanation.Undecided allowance
+  pub undecided : personsRuling a P d t ed A ≡ ruling.Admitted → allowance < needWhy a P d t ed A → r ≡ explainedWith explanation.Undecided allowance
   -- "a non-blocking absence answers 'nothing to explain'"
-  pub nothing : personsRuling a P d t A ≡ ruling.Admitted → needWhy a P d t A ≤ allowance
-      → (crews : List ℕ) → CrewList (merged a) P d t A crews → r ≡ explainedWith explanation.Nothing (needWhy a P d t A)
+  pub nothing : personsRuling a P d t ed A ≡ ruling.Admitted → needWhy a P d t ed A ≤ allowance
+      → (crews : List ℕ) → CrewList (merged a) P d t ed A crews → r ≡ explainedWith explanation.Nothing (needWhy a P d t ed A)
   -- "For a blocking absence give one reason"; "its units are that question's alone"
-  pub reason : personsRuling a P d t A ≡ ruling.Admitted → needWhy a P d t A ≤ allowance
-      → Blocks (merged a) P d t A → Reason (merged a) P d t A (r .why) × (r .units ≡ needWhy a P d t A)
+  pub reason : personsRuling a P d t ed A ≡ ruling.Admitted → needWhy a P d t ed A ≤ allowance
+      → Blocks (merged a) P d t ed A → Reason (merged a) P d t ed A (r .why) × (r .units ≡ needWhy a P d t ed A)
+
+-- the same for a policy as one value, of which the number away plays no part
+abbrev pub WhyReplyFor : Accounts → Policy → (A allowance : ℕ) → Explained → Type 0
+WhyReplyFor a p A allowance r = WhyReply a (p .task) (p .crews) (p .size) (p .edition) A allowance r

@@ -30,28 +30,28 @@ abbrev pub PersonsScarce : Accounts → (P d A p : ℕ) → Type 0
 PersonsScarce a P d A p = Has P p × ((set : ℕ) × ((i : ℕ) → Has set i ↔ HolderHere a A p i) × (ones set < d))
 
 -- the reason why the absence of the persons A blocks
-abbrev pub PersonsReason : Accounts → (P d t A : ℕ) → Explanation → Type 0
-PersonsReason a P d t A =
-    ReasonBy (PersonsScarce a P d A) ((crew : List ℕ) × PersonCrews a P 1 t A crew) (PersonsBlock a P 1 t A) (PersonsBlock a P d t A)
+abbrev pub PersonsReason : Accounts → (P d t ed A : ℕ) → Explanation → Type 0
+PersonsReason a P d t ed A =
+    ReasonBy (PersonsScarce a P d A) ((crew : List ℕ) × PersonCrews a P 1 t ed A crew) (PersonsBlock a P 1 t ed A) (PersonsBlock a P d t ed A)
 
 -- one of the three is given
 abbrev pub GivesReason : Explained → Type 0
 GivesReason r = 1 ≤ reasonNumber (r .why)
 
 -- nothing is refused of the question
-abbrev pub Admits : Accounts → (P d t A : ℕ) → Type 0
-Admits a P d t A = personsRuling a P d t A ≡ ruling.Admitted
+abbrev pub Admits : Accounts → (P d t ed A : ℕ) → Type 0
+Admits a P d t ed A = personsRuling a P d t ed A ≡ ruling.Admitted
 
-pub record Tells (a : Accounts) (P d t A allowance : ℕ) (r : Explained) : Type 0 where
+pub record Tells (a : Accounts) (P d t ed A allowance : ℕ) (r : Explained) : Type 0 where
   -- refused as the named question is
-  pub refused : (refusal : Refusal) → (r .why ≡ Refused refusal) ↔ (personsRuling a P d t A ≡ ruling.Refused refusal)
+  pub refused : (refusal : Refusal) → (r .why ≡ Refused refusal) ↔ (personsRuling a P d t ed A ≡ ruling.Refused refusal)
   -- undecided exactly if the allowance is below the need of the named question
-  pub undecided : (r .why ≡ Undecided) ↔ (Admits a P d t A × (allowance < needWhy a P d t A))
+  pub undecided : (r .why ≡ Undecided) ↔ (Admits a P d t ed A × (allowance < needWhy a P d t ed A))
   -- else nothing to explain exactly if there are crews
-  pub nothing : (r .why ≡ Nothing) ↔ (Admits a P d t A × (needWhy a P d t A ≤ allowance) × ((crews : List ℕ) × PersonCrews a P d t A crews))
+  pub nothing : (r .why ≡ Nothing) ↔ (Admits a P d t ed A × (needWhy a P d t ed A ≤ allowance) × ((crews : List ℕ) × PersonCrews a P d t ed A crews))
   -- "when decided, a reason comes exactly if the absence blocks"
-  pub given : GivesReason r ↔ (Admits a P d t A × (needWhy a P d t A ≤ allowance) × PersonsBlock a P d t A)
+  pub given : GivesReason r ↔ (Admits a P d t ed A × (needWhy a P d t ed A ≤ allowance) × PersonsBlock a P d t ed A)
   -- "the reason given is true", and "no earlier one is"
-  pub holds : GivesReason r → PersonsReason a P d t A (r .why)
+  pub holds : GivesReason r → PersonsReason a P d t ed A (r .why)
   -- "its units are that question's alone"
-  pub units : (named : Reply) → NamedAsked a P d t A allowance named → r .units ≡ named .units
+  pub units : (named : Reply) → NamedAsked a P d t ed A allowance named → r .units ≡ named .units

@@ -2,6 +2,7 @@
 // its units and whether it decides at all are this one's too; only where it finds no crews is a reason looked for. What the reasons are stands in
 // specs/Reasons, without any search.
 use accounts::Accounts;
+use roster::Policy;
 use roster::Refusal;
 use roster::Table;
 use roster::Verdict;
@@ -11,7 +12,7 @@ ghost use lib.Bits.{bitAnd};
 ghost use Rattle.sets.specs.Arrays.{at};
 ghost use Rattle.accounts.specs.Persons.{first};
 ghost use Rattle.reasons.specs.Reasons.{Reason, reasonNumber};
-ghost use Rattle.reasons.specs.Replies.{WhyReply};
+ghost use Rattle.reasons.specs.Replies.{WhyReplyFor};
 ghost use Rattle.reasons.specs.Inner.{Stuck};
 ghost use Rattle.reasons.specs.Replied.{scarceIn};
 
@@ -78,25 +79,25 @@ fn lowest_scarce(holders: &[u64; 32], task: u32, crews: usize, free: u64) -> u32
 }
 
 // The reason why an absence blocks. The named question for one crew needs no more than the one that was decided, so it is decided too.
-fn reason(
-    table: Table,
-    task: u32,
-    crews: usize,
-    size: u32,
-    absent: u64,
-    allowance: u32,
-) -> Explanation
-    requires { ⌜ Stuck table task crews size absent allowance ⌝ }
-    ensures { λ r. ⌜ Reason table task crews size absent r ⌝ }
+fn reason(table: Table, policy: Policy, absent: u64, allowance: u32) -> Explanation
+    requires { ⌜ Stuck table (policy .task) (policy .crews) (policy .size) (policy .edition) absent allowance ⌝ }
+    ensures { λ r. ⌜ Reason table (policy .task) (policy .crews) (policy .size) (policy .edition) absent r ⌝ }
 {
-    let holds = crews::holdings_within(table, task);
+    let holds = crews::holdings_within(table, policy.task);
     let holders = crews::holders_of(&holds);
     let free = sets::below(table.rows) & !absent;
-    let permission = lowest_scarce(&holders, task, crews, free);
+    let permission = lowest_scarce(&holders, policy.task, policy.crews, free);
     if permission < 32 {
         return Explanation::Scarce(permission);
     }
-    let one = crews::ask_named(table, task, 1, size, absent, allowance);
+    let single = Policy {
+        task: policy.task,
+        away: policy.away,
+        crews: 1,
+        size: policy.size,
+        edition: policy.edition,
+    };
+    let one = crews::ask_named(table, single, absent, allowance);
     let verdict = one.verdict;
     match verdict {
         Verdict::Crews => Explanation::Overlap,
@@ -104,25 +105,18 @@ fn reason(
     }
 }
 
-// Why these persons' absence blocks, or what else there is to say.
-pub fn why(
-    accounts: Accounts,
-    task: u32,
-    crews: usize,
-    size: u32,
-    absent: u64,
-    allowance: u32,
-) -> Explained
-    ensures { λ r. ⌜ WhyReply accounts task crews size absent allowance r ⌝ }
+// Why these persons' absence blocks, or what else there is to say. How many may be away plays no part.
+pub fn why(accounts: Accounts, policy: Policy, absent: u64, allowance: u32) -> Explained
+    ensures { λ r. ⌜ WhyReplyFor accounts policy absent allowance r ⌝ }
 {
-    let named = questions::ask_named(accounts, task, crews, size, absent, allowance);
+    let named = questions::ask_named(accounts, policy, absent, allowance);
     let verdict = named.verdict;
     let why = match verdict {
         Verdict::Refused(refusal) => Explanation::Refused(refusal),
         Verdict::Crews => Explanation::Nothing,
         Verdict::None => {
             let people = accounts::merged(accounts);
-            reason(people.table, task, crews, size, absent, allowance)
+            reason(people.table, policy, absent, allowance)
         }
         _ => Explanation::Undecided,
     };

@@ -44,10 +44,10 @@ setOfRows (row ∷ rest) = 2 ^ row + setOfRows rest
 
 pub data Question : Type 0 where
   -- a policy question, and one for a named absence: by which published number are they refused?
-  policy : (rows P s d t : ℕ) → Question
-  named : (rows P d t A : ℕ) → Question
+  policy : (rows P s d t ed : ℕ) → Question
+  named : (rows P d t ed A : ℕ) → Question
   -- which policy is made of these numbers?
-  making : (P s d t : ℕ) → Question
+  making : (P s d t ed : ℕ) → Question
   -- of each row of the table: which rows outweigh it, which are ahead of it?
   outweighing : Table → (P : ℕ) → Question
   going-ahead : Table → (P : ℕ) → Question
@@ -84,119 +84,136 @@ apart = tableOf (7 ∷ 8 ∷ 12 ∷ 3 ∷ [])
 
 -- ---- the table
 
--- rows, P, s, d, t: each at its limits and past them
+-- rows, P, s, d, t, edition: each at its limits and past them
 abbrev pub policies : List Example
 policies =
-    policy 4 3 1 2 2 gives admitted
-    ∷ policy 0 3 1 2 2 gives admitted
-    ∷ policy 64 3 1 2 2 gives admitted
-    ∷ policy 65 3 1 2 2 gives refused 1
-    ∷ policy (2 ^ 64 - 1) 3 1 2 2 gives refused 1
-    ∷ policy 4 0 1 2 2 gives refused 2
-    ∷ policy 4 1 1 2 2 gives admitted
-    ∷ policy 4 (2 ^ 32 - 1) 1 2 2 gives admitted
-    ∷ policy 4 3 0 2 2 gives admitted
-    ∷ policy 4 3 64 2 2 gives admitted
-    ∷ policy 4 3 65 2 2 gives refused 3
-    ∷ policy 4 3 (2 ^ 32 - 1) 2 2 gives refused 3
-    ∷ policy 4 3 1 0 2 gives refused 4
-    ∷ policy 4 3 1 1 2 gives admitted
-    ∷ policy 4 3 1 8 2 gives admitted
-    ∷ policy 4 3 1 9 2 gives refused 4
-    ∷ policy 4 3 1 (2 ^ 64 - 1) 2 gives refused 4
-    ∷ policy 4 3 1 2 0 gives refused 5
-    ∷ policy 4 3 1 2 1 gives admitted
-    ∷ policy 4 3 1 2 64 gives admitted
-    ∷ policy 4 3 1 2 65 gives refused 5
-    ∷ policy 4 3 1 2 (2 ^ 32 - 1) gives refused 5
-    ∷ policy 0 1 0 1 1 gives admitted
-    ∷ policy 64 (2 ^ 32 - 1) 64 8 64 gives admitted
+    policy 4 3 1 2 2 1 gives admitted
+    ∷ policy 0 3 1 2 2 1 gives admitted
+    ∷ policy 64 3 1 2 2 1 gives admitted
+    ∷ policy 65 3 1 2 2 1 gives refused 1
+    ∷ policy (2 ^ 64 - 1) 3 1 2 2 1 gives refused 1
+    ∷ policy 4 0 1 2 2 1 gives refused 2
+    ∷ policy 4 1 1 2 2 1 gives admitted
+    ∷ policy 4 (2 ^ 32 - 1) 1 2 2 1 gives admitted
+    ∷ policy 4 3 0 2 2 1 gives admitted
+    ∷ policy 4 3 64 2 2 1 gives admitted
+    ∷ policy 4 3 65 2 2 1 gives refused 3
+    ∷ policy 4 3 (2 ^ 32 - 1) 2 2 1 gives refused 3
+    ∷ policy 4 3 1 0 2 1 gives refused 4
+    ∷ policy 4 3 1 1 2 1 gives admitted
+    ∷ policy 4 3 1 8 2 1 gives admitted
+    ∷ policy 4 3 1 9 2 1 gives refused 4
+    ∷ policy 4 3 1 (2 ^ 64 - 1) 2 1 gives refused 4
+    ∷ policy 4 3 1 2 0 1 gives refused 5
+    ∷ policy 4 3 1 2 1 1 gives admitted
+    ∷ policy 4 3 1 2 64 1 gives admitted
+    ∷ policy 4 3 1 2 65 1 gives refused 5
+    ∷ policy 4 3 1 2 (2 ^ 32 - 1) 1 gives refused 5
+    ∷ policy 4 3 1 2 2 0 gives refused 25
+    ∷ policy 4 3 1 2 2 2 gives admitted
+    ∷ policy 4 3 1 2 2 3 gives refused 25
+    ∷ policy 4 3 1 2 2 (2 ^ 32 - 1) gives refused 25
+    ∷ policy 4 3 1 2 1 2 gives admitted
+    ∷ policy 0 1 0 1 1 1 gives admitted
+    ∷ policy 64 (2 ^ 32 - 1) 64 8 64 2 gives admitted
     ∷ []
 
 -- two faults at once, then three, then all of them, and all but the first of them: the first that applies
 abbrev pub policies-at-fault : List Example
 policies-at-fault =
-    policy 65 0 1 2 2 gives refused 1
-    ∷ policy 4 0 65 2 2 gives refused 2
-    ∷ policy 4 3 65 0 2 gives refused 3
-    ∷ policy 4 3 65 9 2 gives refused 3
-    ∷ policy 4 3 1 0 0 gives refused 4
-    ∷ policy 4 3 1 0 65 gives refused 4
-    ∷ policy 4 3 1 9 0 gives refused 4
-    ∷ policy 4 3 1 9 65 gives refused 4
-    ∷ policy 65 3 65 2 2 gives refused 1
-    ∷ policy 65 3 1 9 2 gives refused 1
-    ∷ policy 65 3 1 2 0 gives refused 1
-    ∷ policy 4 0 1 9 2 gives refused 2
-    ∷ policy 4 0 1 2 0 gives refused 2
-    ∷ policy 4 3 65 2 65 gives refused 3
-    ∷ policy 65 0 65 2 2 gives refused 1
-    ∷ policy 4 0 65 0 2 gives refused 2
-    ∷ policy 4 3 65 9 0 gives refused 3
-    ∷ policy 65 0 65 0 0 gives refused 1
-    ∷ policy 65 0 65 9 65 gives refused 1
-    ∷ policy 4 0 65 0 0 gives refused 2
-    ∷ policy 4 0 65 9 65 gives refused 2
+    policy 65 0 1 2 2 1 gives refused 1
+    ∷ policy 4 0 65 2 2 1 gives refused 2
+    ∷ policy 4 3 65 0 2 1 gives refused 3
+    ∷ policy 4 3 65 9 2 1 gives refused 3
+    ∷ policy 4 3 1 0 0 1 gives refused 4
+    ∷ policy 4 3 1 0 65 1 gives refused 4
+    ∷ policy 4 3 1 9 0 1 gives refused 4
+    ∷ policy 4 3 1 9 65 1 gives refused 4
+    ∷ policy 4 3 1 2 0 0 gives refused 5
+    ∷ policy 4 3 1 2 65 3 gives refused 5
+    ∷ policy 4 3 1 9 2 3 gives refused 4
+    ∷ policy 65 3 65 2 2 1 gives refused 1
+    ∷ policy 65 3 1 9 2 1 gives refused 1
+    ∷ policy 65 3 1 2 0 1 gives refused 1
+    ∷ policy 4 0 1 9 2 1 gives refused 2
+    ∷ policy 4 0 1 2 0 1 gives refused 2
+    ∷ policy 4 3 65 2 65 1 gives refused 3
+    ∷ policy 65 0 65 2 2 1 gives refused 1
+    ∷ policy 4 0 65 0 2 1 gives refused 2
+    ∷ policy 4 3 65 9 0 1 gives refused 3
+    ∷ policy 65 0 65 0 0 1 gives refused 1
+    ∷ policy 65 0 65 9 65 3 gives refused 1
+    ∷ policy 4 0 65 0 0 0 gives refused 2
+    ∷ policy 4 0 65 9 65 1 gives refused 2
     ∷ []
 
--- rows, P, d, t and the set of those absent: 3 is no fault here, and a bit at or past the row count is 6
+-- rows, P, d, t, edition and the set of those absent: 3 is no fault here, and a bit at or past the row count is 6
 abbrev pub names : List Example
 names =
-    named 4 3 2 2 0 gives admitted
-    ∷ named 0 3 2 2 0 gives admitted
-    ∷ named 64 3 2 2 0 gives admitted
-    ∷ named 65 3 2 2 0 gives refused 1
-    ∷ named 4 0 2 2 0 gives refused 2
-    ∷ named 4 1 2 2 0 gives admitted
-    ∷ named 4 (2 ^ 32 - 1) 2 2 0 gives admitted
-    ∷ named 4 3 0 2 0 gives refused 4
-    ∷ named 4 3 1 2 0 gives admitted
-    ∷ named 4 3 8 2 0 gives admitted
-    ∷ named 4 3 9 2 0 gives refused 4
-    ∷ named 4 3 2 0 0 gives refused 5
-    ∷ named 4 3 2 1 0 gives admitted
-    ∷ named 4 3 2 64 0 gives admitted
-    ∷ named 4 3 2 65 0 gives refused 5
-    ∷ named 0 3 2 2 (setOfRows (0 ∷ [])) gives refused 6
-    ∷ named 4 3 2 2 (setOfRows (3 ∷ [])) gives admitted
-    ∷ named 4 3 2 2 (setOfRows (0 ∷ 1 ∷ 2 ∷ 3 ∷ [])) gives admitted
-    ∷ named 4 3 2 2 (setOfRows (4 ∷ [])) gives refused 6
-    ∷ named 4 3 2 2 (setOfRows (0 ∷ 63 ∷ [])) gives refused 6
-    ∷ named 63 3 2 2 (setOfRows (62 ∷ [])) gives admitted
-    ∷ named 63 3 2 2 (setOfRows (63 ∷ [])) gives refused 6
-    ∷ named 64 3 2 2 (setOfRows (63 ∷ [])) gives admitted
-    ∷ named 64 3 2 2 (2 ^ 64 - 1) gives admitted
+    named 4 3 2 2 1 0 gives admitted
+    ∷ named 0 3 2 2 1 0 gives admitted
+    ∷ named 64 3 2 2 1 0 gives admitted
+    ∷ named 65 3 2 2 1 0 gives refused 1
+    ∷ named 4 0 2 2 1 0 gives refused 2
+    ∷ named 4 1 2 2 1 0 gives admitted
+    ∷ named 4 (2 ^ 32 - 1) 2 2 1 0 gives admitted
+    ∷ named 4 3 0 2 1 0 gives refused 4
+    ∷ named 4 3 1 2 1 0 gives admitted
+    ∷ named 4 3 8 2 1 0 gives admitted
+    ∷ named 4 3 9 2 1 0 gives refused 4
+    ∷ named 4 3 2 0 1 0 gives refused 5
+    ∷ named 4 3 2 1 1 0 gives admitted
+    ∷ named 4 3 2 64 1 0 gives admitted
+    ∷ named 4 3 2 65 1 0 gives refused 5
+    ∷ named 4 3 2 2 0 0 gives refused 25
+    ∷ named 4 3 2 2 2 0 gives admitted
+    ∷ named 4 3 2 2 3 0 gives refused 25
+    ∷ named 0 3 2 2 1 (setOfRows (0 ∷ [])) gives refused 6
+    ∷ named 4 3 2 2 1 (setOfRows (3 ∷ [])) gives admitted
+    ∷ named 4 3 2 2 1 (setOfRows (0 ∷ 1 ∷ 2 ∷ 3 ∷ [])) gives admitted
+    ∷ named 4 3 2 2 1 (setOfRows (4 ∷ [])) gives refused 6
+    ∷ named 4 3 2 2 1 (setOfRows (0 ∷ 63 ∷ [])) gives refused 6
+    ∷ named 63 3 2 2 1 (setOfRows (62 ∷ [])) gives admitted
+    ∷ named 63 3 2 2 1 (setOfRows (63 ∷ [])) gives refused 6
+    ∷ named 64 3 2 2 1 (setOfRows (63 ∷ [])) gives admitted
+    ∷ named 64 3 2 2 1 (2 ^ 64 - 1) gives admitted
     ∷ []
 
 abbrev pub names-at-fault : List Example
 names-at-fault =
-    named 65 0 2 2 0 gives refused 1
-    ∷ named 4 0 0 2 0 gives refused 2
-    ∷ named 4 0 9 2 0 gives refused 2
-    ∷ named 4 3 0 0 0 gives refused 4
-    ∷ named 4 3 0 65 0 gives refused 4
-    ∷ named 4 3 9 0 0 gives refused 4
-    ∷ named 4 3 9 65 0 gives refused 4
-    ∷ named 4 3 2 0 (setOfRows (4 ∷ [])) gives refused 5
-    ∷ named 4 3 2 65 (setOfRows (4 ∷ [])) gives refused 5
-    ∷ named 4 0 2 2 (setOfRows (4 ∷ [])) gives refused 2
-    ∷ named 4 3 9 2 (setOfRows (4 ∷ [])) gives refused 4
-    ∷ named 65 0 9 2 0 gives refused 1
-    ∷ named 4 0 0 65 0 gives refused 2
-    ∷ named 4 3 0 65 (setOfRows (4 ∷ [])) gives refused 4
-    ∷ named 65 0 0 0 0 gives refused 1
-    ∷ named 4 0 0 0 (setOfRows (4 ∷ [])) gives refused 2
-    ∷ named 4 0 9 65 (setOfRows (4 ∷ [])) gives refused 2
+    named 65 0 2 2 1 0 gives refused 1
+    ∷ named 4 0 0 2 1 0 gives refused 2
+    ∷ named 4 0 9 2 1 0 gives refused 2
+    ∷ named 4 3 0 0 1 0 gives refused 4
+    ∷ named 4 3 0 65 1 0 gives refused 4
+    ∷ named 4 3 9 0 1 0 gives refused 4
+    ∷ named 4 3 9 65 1 0 gives refused 4
+    ∷ named 4 3 2 0 1 (setOfRows (4 ∷ [])) gives refused 5
+    ∷ named 4 3 2 65 1 (setOfRows (4 ∷ [])) gives refused 5
+    ∷ named 4 3 2 0 3 (setOfRows (4 ∷ [])) gives refused 5
+    ∷ named 4 3 2 2 3 (setOfRows (4 ∷ [])) gives refused 25
+    ∷ named 4 3 2 2 0 (setOfRows (4 ∷ [])) gives refused 25
+    ∷ named 4 0 2 2 1 (setOfRows (4 ∷ [])) gives refused 2
+    ∷ named 4 3 9 2 1 (setOfRows (4 ∷ [])) gives refused 4
+    ∷ named 65 0 9 2 1 0 gives refused 1
+    ∷ named 4 0 0 65 1 0 gives refused 2
+    ∷ named 4 3 0 65 1 (setOfRows (4 ∷ [])) gives refused 4
+    ∷ named 65 0 0 0 1 0 gives refused 1
+    ∷ named 4 0 0 0 1 (setOfRows (4 ∷ [])) gives refused 2
+    ∷ named 4 0 9 65 1 (setOfRows (4 ∷ [])) gives refused 2
     ∷ []
 
--- P, s, d, t: the policy, or its own first fault
+-- P, s, d, t, edition: the policy, or its own first fault
 abbrev pub policies-made : List Example
 policies-made =
-    making 3 1 2 4 gives makes (record { task = 3; away = 1; crews = 2; size = 4 })
-    ∷ making 0 65 2 4 gives refused 2
-    ∷ making 3 65 9 4 gives refused 3
-    ∷ making 3 1 9 0 gives refused 4
-    ∷ making 3 1 2 65 gives refused 5
+    making 3 1 2 4 1 gives makes (record { task = 3; away = 1; crews = 2; size = 4; edition = 1 })
+    ∷ making 3 1 2 4 2 gives makes (record { task = 3; away = 1; crews = 2; size = 4; edition = 2 })
+    ∷ making 0 65 2 4 1 gives refused 2
+    ∷ making 3 65 9 4 1 gives refused 3
+    ∷ making 3 1 9 0 1 gives refused 4
+    ∷ making 3 1 2 65 0 gives refused 5
+    ∷ making 3 1 2 64 0 gives refused 25
+    ∷ making 3 1 2 64 3 gives refused 25
     ∷ []
 
 abbrev pub standing : List Example
@@ -257,9 +274,9 @@ below table test = filter test (tabulate (table .rows) (λ u. u))
 
 -- what the definitions answer; the tests are the relations `Outweighs` and `Ahead` (`outweighs-iff`, `ahead-iff`)
 abbrev pub answerOf : Question → Answer
-answerOf (policy rows P s d t) = told (policyRuling rows P s d t)
-answerOf (named rows P d t A) = told (namedRuling rows P d t A)
-answerOf (making P s d t) = told-made (madeOf P s d t)
+answerOf (policy rows P s d t ed) = told (policyRuling rows P s d t ed)
+answerOf (named rows P d t ed A) = told (namedRuling rows P d t ed A)
+answerOf (making P s d t ed) = told-made (madeOf P s d t ed)
 answerOf (outweighing table P) = by-row (tabulate (table .rows) (λ v. below table (λ u. outweighsb table P u v)))
 answerOf (going-ahead table P) = by-row (tabulate (table .rows) (λ v. below table (λ u. ahead table P u v)))
 answerOf (each-rank table P) = numbers (tabulate (table .rows) (rank table P))

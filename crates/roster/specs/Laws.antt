@@ -6,3 +6,4 @@ pub mod Swap
 pub mod Limits
 pub mod Same
 pub mod Fewer
+pub mod Editions

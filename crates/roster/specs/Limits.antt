@@ -16,3 +16,7 @@ crewLimit = 8
 -- "t: 1 to 64"
 abbrev pub sizeLimit : ℕ
 sizeLimit = 64
+
+-- "25, edition other than 1 or 2"
+abbrev pub editionLimit : ℕ
+editionLimit = 2

@@ -2,7 +2,7 @@
 -- and a "no" are worth. Nothing here is proved: these are definitions.
 use mathlib.Core.Path.{_≡_}
 use mathlib.Core.Logic.{_⊎_, _≢_}
-use mathlib.Core.Bool.{Bool, not, _&&_, _||_}
+use mathlib.Core.Bool.{Bool, true, false, not, _&&_, _||_}
 use mathlib.Core.List.{List}
 use Prim.Native.Nat.{ℕ, _^_, _≤_, _<_}
 use lib.Bits.{bitAnd}
@@ -21,18 +21,25 @@ held table P u = bitAnd (getD (table .holdings) u 0) P
 abbrev pub Covers : Table → ℕ → ℕ → Type 0
 Covers table P crew = (p : ℕ) → Has P p → (u : ℕ) × Has crew u × Has (held table P u) p
 
--- "A crew list for absence A is d sets of rows, pairwise disjoint, none meeting A, each of at most t rows, each together holding all of P."
-pub record CrewList (table : Table) (P d t A : ℕ) (crews : List ℕ) : Type 0 where
+-- How many members a crew has at least: "the firm's restore rule, second edition, requires two members in each crew". The first asks for none;
+-- `ed` is the edition here and below.
+unfoldable pub leastMembers : ℕ → ℕ
+leastMembers ed = elim (eqb ed 2) [ true ↦ 2 | false ↦ 0 ]
+
+-- "A crew list for absence A is d sets of rows, pairwise disjoint, none meeting A, each of at most t rows, each together holding all of P", and
+-- each of as many rows as the edition requires.
+pub record CrewList (table : Table) (P d t ed A : ℕ) (crews : List ℕ) : Type 0 where
   pub many : length crews ≡ d
   pub rows : (j : ℕ) → j < d → getD crews j 0 < 2 ^ table .rows
   pub disjoint : (i j : ℕ) → i < d → j < d → i ≢ j → Apart (getD crews i 0) (getD crews j 0)
   pub present : (j : ℕ) → j < d → Apart (getD crews j 0) A
   pub small : (j : ℕ) → j < d → ones (getD crews j 0) ≤ t
   pub whole : (j : ℕ) → j < d → Covers table P (getD crews j 0)
+  pub enough : (j : ℕ) → j < d → leastMembers ed ≤ ones (getD crews j 0)
 
 -- "A blocks if no crew list for A exists."
-abbrev pub Blocks : Table → ℕ → ℕ → ℕ → ℕ → Type 0
-Blocks table P d t A = (crews : List ℕ) → CrewList table P d t A crews → ⊥
+abbrev pub Blocks : Table → ℕ → ℕ → ℕ → ℕ → ℕ → Type 0
+Blocks table P d t ed A = (crews : List ℕ) → CrewList table P d t ed A crews → ⊥
 
 -- a set of at most s rows
 pub record Absence (table : Table) (s A : ℕ) : Type 0 where
@@ -40,8 +47,8 @@ pub record Absence (table : Table) (s A : ℕ) : Type 0 where
   pub few : ones A ≤ s
 
 -- "The policy holds if no A of at most s rows blocks."
-abbrev pub Holds : Table → ℕ → ℕ → ℕ → ℕ → Type 0
-Holds table P s d t = (A : ℕ) → Absence table s A → Blocks table P d t A → ⊥
+abbrev pub Holds : Table → ℕ → ℕ → ℕ → ℕ → ℕ → Type 0
+Holds table P s d t ed = (A : ℕ) → Absence table s A → Blocks table P d t ed A → ⊥
 
 -- "Row u outweighs row v if u's holdings within P include all of v's and either they are strictly more or they are equal and u < v."
 abbrev pub Outweighs : Table → ℕ → ℕ → ℕ → Type 0
@@ -88,5 +95,5 @@ pub record First (table : Table) (P : ℕ) (Q : ℕ → Type 0) (A : ℕ) : Type
   pub first : (B : ℕ) → B < 2 ^ table .rows → Q B → Earlier table P B A → ⊥
 
 -- "the first blocking absence": the first of those of at most s rows that block
-abbrev pub FirstBlocker : Table → ℕ → ℕ → ℕ → ℕ → ℕ → Type 0
-FirstBlocker table P s d t = First table P (λ A. (ones A ≤ s) × Blocks table P d t A)
+abbrev pub FirstBlocker : Table → ℕ → ℕ → ℕ → ℕ → ℕ → ℕ → Type 0
+FirstBlocker table P s d t ed = First table P (λ A. (ones A ≤ s) × Blocks table P d t ed A)

@@ -3,8 +3,9 @@
 ghost use mathlib.Core.Path.{_≡_};
 ghost use Prim.Native.Nat.{_^_};
 ghost use lib.Dec.{leb};
-ghost use Rattle.roster.specs.Limits.{rowLimit, awayLimit, crewLimit, sizeLimit};
-ghost use Rattle.roster.specs.Refusals.{numberOf, policyRuling, namedRuling, madeOf};
+ghost use Rattle.roster.specs.Limits.{rowLimit, awayLimit, crewLimit, sizeLimit, editionLimit};
+ghost use Rattle.roster.specs.Meaning.{leastMembers};
+ghost use Rattle.roster.specs.Refusals.{numberOf, policyRuling, rulingOf, namedRulingOf, madeOf};
 ghost use Rattle.roster.specs.Replies.{noCrews, replyWith};
 
 // Who holds what: bit i of a row's holdings is permission i. Holdings past the row count play no part.
@@ -13,12 +14,14 @@ pub struct Table {
     pub rows: usize,
 }
 
-// Any `away` people absent, still `crews` separate crews of at most `size`, each holding every permission of `task`.
+// Any `away` people absent, still `crews` separate crews of at most `size`, each holding every permission of `task`; by the rule of this
+// edition, of which the second asks for two members in each crew.
 pub struct Policy {
     pub task: u32,
     pub away: u32,
     pub crews: usize,
     pub size: u32,
+    pub edition: u32,
 }
 
 // Why a question is refused. `number` gives the number that is published for each.
@@ -29,6 +32,7 @@ pub enum Refusal {
     Crews,
     Size,
     Absence,
+    Edition,
 }
 
 // What looking over a question's numbers finds: nothing amiss, or the first fault in the fixed order.
@@ -70,18 +74,22 @@ impl Policy {
     pub const CREWS: usize = 8;
     // Members of a crew at most; as many as there are rows, so no limit at all.
     pub const SIZE: u32 = 64;
+    // Editions of the restore rule, numbered from 1.
+    pub const EDITIONS: u32 = 2;
 
     // The policy, or the first of its own faults.
-    pub fn new(task: u32, away: u32, crews: usize, size: u32) -> Made
-        ensures made { λ r. ⌜ r ≡ madeOf task away crews size ⌝ }
+    pub fn new(task: u32, away: u32, crews: usize, size: u32, edition: u32) -> Made
+        ensures made { λ r. ⌜ r ≡ madeOf task away crews size edition ⌝ }
         ensures limits { λ r. do ⌜ ((← ⟦Policy::ROWS⟧ .entry) ≡ rowLimit) × ((← ⟦Policy::AWAY⟧ .entry) ≡ awayLimit) × ((← ⟦Policy::CREWS⟧ .entry) ≡ crewLimit) × ((← ⟦Policy::SIZE⟧ .entry) ≡ sizeLimit) ⌝ }
+        ensures editions { λ r. do ⌜ (← ⟦Policy::EDITIONS⟧ .entry) ≡ editionLimit ⌝ }
     {
-        match policy_ruling(0, task, away, crews, size) {
+        match first_fault(0, task, away, crews, size, edition) {
             Ruling::Admitted => Made::Policy(Policy {
                 task: task,
                 away: away,
                 crews: crews,
                 size: size,
+                edition: edition,
             }),
             Ruling::Refused(refusal) => Made::Refused(refusal),
         }
@@ -175,13 +183,24 @@ impl Refusal {
             Refusal::Crews => 4,
             Refusal::Size => 5,
             Refusal::Absence => 6,
+            Refusal::Edition => 25,
         }
     }
 }
 
-// The first fault of a policy question's numbers.
-pub fn policy_ruling(rows: usize, task: u32, away: u32, crews: usize, size: u32) -> Ruling
-    ensures { λ r. ⌜ r ≡ policyRuling rows task away crews size ⌝ }
+// How many members a crew has at least under this edition.
+pub fn least_members(edition: u32) -> u32
+    ensures { λ r. ⌜ r ≡ leastMembers edition ⌝ }
+{
+    if edition == 2 {
+        return 2;
+    }
+    0
+}
+
+// The first fault of these numbers.
+fn first_fault(rows: usize, task: u32, away: u32, crews: usize, size: u32, edition: u32) -> Ruling
+    ensures { λ r. ⌜ r ≡ policyRuling rows task away crews size edition ⌝ }
 {
     if rows > Policy::ROWS {
         return Ruling::Refused(Refusal::Rows);
@@ -204,7 +223,27 @@ pub fn policy_ruling(rows: usize, task: u32, away: u32, crews: usize, size: u32)
     if size > Policy::SIZE {
         return Ruling::Refused(Refusal::Size);
     }
+    if edition == 0 {
+        return Ruling::Refused(Refusal::Edition);
+    }
+    if edition > Policy::EDITIONS {
+        return Ruling::Refused(Refusal::Edition);
+    }
     Ruling::Admitted
+}
+
+// The first fault of a policy question.
+pub fn policy_ruling(rows: usize, policy: Policy) -> Ruling
+    ensures { λ r. ⌜ r ≡ rulingOf rows policy ⌝ }
+{
+    first_fault(
+        rows,
+        policy.task,
+        policy.away,
+        policy.crews,
+        policy.size,
+        policy.edition,
+    )
 }
 
 // Whether the set has a bit at or past the row count. A shift by 64 is no operation, and no set has a bit there.
@@ -217,11 +256,19 @@ fn past_rows(rows: usize, set: u64) -> bool
     set >> rows != 0
 }
 
-// The first fault of a named-absence question's numbers.
-pub fn named_ruling(rows: usize, task: u32, crews: usize, size: u32, absent: u64) -> Ruling
-    ensures { λ r. ⌜ r ≡ namedRuling rows task crews size absent ⌝ }
+// The first fault of a question for a named absence, which does not look at how many may be away.
+pub fn named_ruling(rows: usize, policy: Policy, absent: u64) -> Ruling
+    ensures { λ r. ⌜ r ≡ namedRulingOf rows policy absent ⌝ }
 {
-    match policy_ruling(rows, task, 0, crews, size) {
+    let away = 0;
+    match first_fault(
+        rows,
+        policy.task,
+        away,
+        policy.crews,
+        policy.size,
+        policy.edition,
+    ) {
         Ruling::Refused(refusal) => Ruling::Refused(refusal),
         Ruling::Admitted => {
             if past_rows(rows, absent) {

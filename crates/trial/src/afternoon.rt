@@ -18,6 +18,7 @@ use crate::shown::show_name;
 use live::Outcome;
 use live::Roster;
 use live::Told;
+use roster::Policy;
 use roster::Reply;
 
 // The kinds of comparison.
@@ -48,12 +49,13 @@ struct Pair {
     list: Listed,
 }
 
-// What is asked of a pair: the task, how many crews, how many to each, how many away, and an absence by its number.
+// What is asked of a pair: the task, how many crews, how many to each, how many away, the edition, and an absence by its number.
 struct Asked {
     task: usize,
     crews: usize,
     size: usize,
     away: usize,
+    edition: usize,
     absent: usize,
 }
 
@@ -160,6 +162,7 @@ fn duty_of(list: Listed, asked: Asked) -> Duty {
         task: family::small_task(asked.task),
         crews: asked.crews,
         size: asked.size,
+        edition: asked.edition,
     }
 }
 
@@ -167,23 +170,29 @@ fn narrow(n: usize) -> u32 {
     if n < 64 { n as u32 } else { 64 }
 }
 
+fn policy_of(asked: Asked) -> Policy {
+    Policy {
+        task: narrow(asked.task),
+        away: narrow(asked.away),
+        crews: asked.crews,
+        size: narrow(asked.size),
+        edition: narrow(asked.edition),
+    }
+}
+
 fn policy(pair: Pair, asked: Asked, skipping: bool) -> Reply {
     let roster = pair.roster;
-    let task = narrow(asked.task);
-    let size = narrow(asked.size);
     if skipping {
-        return live::ask_skipping(roster, task, narrow(asked.away), asked.crews, size, AMPLE);
+        return live::ask_skipping(roster, policy_of(asked), AMPLE);
     }
-    live::ask_full(roster, task, narrow(asked.away), asked.crews, size, AMPLE)
+    live::ask_full(roster, policy_of(asked), AMPLE)
 }
 
 fn named(pair: Pair, asked: Asked, number: usize) -> Reply {
     let roster = pair.roster;
     live::ask_named(
         roster,
-        narrow(asked.task),
-        asked.crews,
-        narrow(asked.size),
+        policy_of(asked),
         known::mask_of(known::set_of(number)),
         AMPLE,
     )
@@ -272,6 +281,7 @@ fn drawn_question(number: u64) -> Asked {
         crews: 1 + family::digit(number / 64, 3),
         size: if size == 0 { 64 } else { size },
         away: family::digit(number / 8192, 4),
+        edition: 1 + family::digit(number / 4194304, 2),
         absent: family::digit(number / 65536, 64),
     }
 }
@@ -317,6 +327,7 @@ fn planted() -> Tally {
         crews: 1,
         size: 1,
         away: 0,
+        edition: 1,
         absent: 0,
     };
     asked_of(compared(Tally::none(), pair, call), pair, asked)

@@ -64,11 +64,17 @@ impl Ways {
         true
     }
 
-    // Whether each crew is within the size and covers the task. Crews are disjoint since a row is in one place.
+    // Whether the crew has as many members as it may and has to have.
+    fn fits(self, duty: Duty, crew: usize) -> bool {
+        let members = self.members(crew);
+        members <= duty.size && members >= duty.least()
+    }
+
+    // Whether each crew is within the sizes and covers the task. Crews are disjoint since a row is in one place.
     fn good(self, duty: Duty) -> bool {
         for c in 0..CREWS {
             let crew = c + 1;
-            if crew <= duty.crews && (self.members(crew) > duty.size || !self.covers(duty, crew)) {
+            if crew <= duty.crews && (!self.fits(duty, crew) || !self.covers(duty, crew)) {
                 return false;
             }
         }

@@ -19,11 +19,11 @@ use accounts::Accounts;
 use roster::Policy;
 ghost use Prim.Native.Nat.{_<_};
 
-// As many numbers as `try_small` takes apart: 512 holdings, 4 row counts, 7 tasks, 4 values of d and 4 of t.
-const SMALL: usize = 229376;
+// As many numbers as `try_small` takes apart: 512 holdings, 4 row counts, 7 tasks, 4 values of d, 4 of t and 2 editions.
+const SMALL: usize = 458752;
 
-// As many tables are drawn.
-const DRAWN: usize = 6000;
+// As many tables are drawn, about half of them for the second edition.
+const DRAWN: usize = 12000;
 
 // Where a permission stands in a row's holdings: in its own place, or spread over the whole width.
 pub(crate) fn bit_of(spread: bool, p: usize) -> u32 {
@@ -91,7 +91,7 @@ fn accounts_of(staff: Staff, spread: bool, noise: u32) -> Accounts {
     }
 }
 
-// A crew's size as the libraries have it.
+// A small number as the libraries have it.
 fn size_of(size: usize) -> u32 {
     if size < 64 { size as u32 } else { 64 }
 }
@@ -104,6 +104,7 @@ pub(crate) fn asked_of(staff: Staff, spread: bool, noise: u32) -> Asked {
         task: task_of(duty, spread),
         crews: duty.crews,
         size: size_of(duty.size),
+        edition: size_of(duty.edition),
     }
 }
 
@@ -251,7 +252,8 @@ fn small_tables(rows: usize) -> usize {
     }
 }
 
-// One duty of the small ones: the number's digits, to changing bases, say the holdings, the row count, the task, d and t.
+// One duty of the small ones: the number's digits, to changing bases, say the holdings, the row count, the task, d, t and
+// the edition.
 fn try_small(counts: Counts, number: usize) -> Counts {
     let rows = number / 512 % 4;
     if number % 512 >= small_tables(rows) {
@@ -263,13 +265,14 @@ fn try_small(counts: Counts, number: usize) -> Counts {
         task: small_task(number / 2048 % 7 + 1),
         crews: number / 14336 % 4 + 1,
         size: number / 57344 % 4 + 1,
+        edition: number / 229376 % 2 + 1,
     };
     let asked = asked_of(persons::own(duty), false, AMPLE);
     let known = known::known_of(duty);
     try_away(try_absences(counts, known, duty, asked), known, duty, asked)
 }
 
-// All tables of up to 3 rows and 3 permissions, with every task, d and t from 1 to 4, and s from 0 to 4.
+// All tables of up to 3 rows and 3 permissions, with every task, d and t from 1 to 4, s from 0 to 4, and both editions.
 pub(crate) fn try_all_small(counts: Counts) -> Counts {
     let mut now = counts;
     for number in 0..SMALL {
@@ -343,6 +346,7 @@ fn try_drawn(counts: Counts, a: u64) -> Counts {
         task: small_task(1 + digit(d, 63)),
         crews: 1 + digit(d / 64, 4),
         size: if size == 0 { 64 } else { size },
+        edition: 1 + digit(d / 8192, 2),
     };
     let staff = staff_of(accounts, c / 1048576);
     let asked = asked_of(staff, true, (d / 65536 % 4294967296) as u32);

@@ -45,8 +45,17 @@ impl Duty {
         false
     }
 
-    // The first candidate from row `from` on: it holds the lowest permission missing, is not absent and in no crew, and keeps crews in order
-    // where they are to be. Past the last row where there is none, or where the crew has as many rows as it may.
+    // Whether the row may be placed next, p being the lowest permission missing: it holds that, and keeps crews in order where they are to be. Where
+    // nothing is missing but a companion, anyone is one.
+    fn suits(self, ordered: bool, placed: Placed, p: usize, row: usize) -> bool {
+        if p == PERMISSIONS {
+            return true;
+        }
+        self.has(row, p) && (!ordered || placed.in_order(row))
+    }
+
+    // The first candidate from row `from` on: it is not absent, in no crew, and suits. Past the last row where there is none, or where the crew has as
+    // many rows as it may.
     fn candidate(self, ordered: bool, absent: [bool; ROWS], placed: Placed, from: usize) -> usize {
         if placed.members(placed.closed) >= self.size {
             return ROWS;
@@ -57,8 +66,7 @@ impl Duty {
                 && row < self.rows
                 && !absent[row]
                 && !placed.has(row)
-                && self.has(row, p)
-                && (!ordered || placed.in_order(row))
+                && self.suits(ordered, placed, p, row)
             {
                 return row;
             }
@@ -66,10 +74,13 @@ impl Duty {
         ROWS
     }
 
-    // The row placed in the crew being filled, which is closed if it now covers the task.
+    // The row placed in the crew being filled, which is closed if it now covers the task and has as many rows as it has to.
     fn place(self, placed: Placed, row: usize) -> Placed {
         let grown = placed.with(row);
         if self.missing(grown, grown.closed) < PERMISSIONS {
+            return grown;
+        }
+        if grown.members(grown.closed) < self.least() {
             return grown;
         }
         grown.with_closed(after(grown.closed))

@@ -86,6 +86,7 @@ impl Staff {
             task: task,
             crews: accounts.crews,
             size: accounts.size,
+            edition: accounts.edition,
         }
     }
 }

@@ -39,6 +39,7 @@ fn example() -> Duty {
         task: [true, true, false, false, false, false],
         crews: 2,
         size: 2,
+        edition: 1,
     }
 }
 

@@ -1,6 +1,7 @@
 // A question as the libraries are asked it.
 use accounts::Accounts;
 use reasons::Explained;
+use roster::Policy;
 use roster::Reply;
 
 // More than any need here.
@@ -29,6 +30,7 @@ pub struct Asked {
     pub task: u32,
     pub crews: usize,
     pub size: u32,
+    pub edition: u32,
 }
 
 // How many may be away counts for a policy, the absent persons for a named absence.
@@ -78,13 +80,15 @@ impl Question {
     // What the libraries reply.
     pub(crate) fn reply(self) -> Reply {
         let asked = self.asked;
+        let accounts = asked.accounts;
+        let policy = asked.policy(self.away);
         if self.way == SKIPPING {
-            return asked.skipping(self.away, self.allowance);
+            return questions::ask_skipping(accounts, policy, self.allowance);
         }
         if self.way == FULL {
-            return asked.full(self.away, self.allowance);
+            return questions::ask_full(accounts, policy, self.allowance);
         }
-        asked.named(self.absent, self.allowance)
+        questions::ask_named(accounts, policy, self.absent, self.allowance)
     }
 
     // How the library explains the absence.
@@ -93,9 +97,7 @@ impl Question {
         let accounts = asked.accounts;
         reasons::why(
             accounts,
-            asked.task,
-            asked.crews,
-            asked.size,
+            asked.policy(self.away),
             self.absent,
             self.allowance,
         )
@@ -103,25 +105,14 @@ impl Question {
 }
 
 impl Asked {
-    fn skipping(self, away: u32, allowance: u32) -> Reply {
-        let accounts = self.accounts;
-        questions::ask_skipping(accounts, self.task, away, self.crews, self.size, allowance)
-    }
-
-    fn full(self, away: u32, allowance: u32) -> Reply {
-        let accounts = self.accounts;
-        questions::ask_full(accounts, self.task, away, self.crews, self.size, allowance)
-    }
-
-    fn named(self, absent: u64, allowance: u32) -> Reply {
-        let accounts = self.accounts;
-        questions::ask_named(
-            accounts,
-            self.task,
-            self.crews,
-            self.size,
-            absent,
-            allowance,
-        )
+    // The policy with so many away.
+    fn policy(self, away: u32) -> Policy {
+        Policy {
+            task: self.task,
+            away: away,
+            crews: self.crews,
+            size: self.size,
+            edition: self.edition,
+        }
     }
 }

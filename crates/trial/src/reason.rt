@@ -43,6 +43,7 @@ fn single(duty: Duty) -> Duty {
         task: task,
         crews: 1,
         size: duty.size,
+        edition: duty.edition,
     }
 }
 

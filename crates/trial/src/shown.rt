@@ -1,4 +1,5 @@
-// A question and a reply as text, written as the cases of the program `edges` are: TABLE, then P;s,d,t. Sets are lists of persons; `-` is an empty one.
+// A question and a reply as text, written as the cases of the program `edges` are: TABLE, then P;s,d,t, and `;2` behind it
+// by the second edition. Sets are lists of persons; `-` is an empty one.
 use crate::known::LISTED;
 use crate::known::Wanted;
 use crate::question;
@@ -113,6 +114,9 @@ fn show_question(question: Question) {
     show_number(b';', wide(question.away));
     show_number(b',', asked.crews as u64);
     show_number(b',', wide(asked.size));
+    if asked.edition != 1 {
+        show_number(b';', wide(asked.edition));
+    }
     if question.way >= question::NAMED {
         io::write_all(1, b" absent");
         show_set(b' ', question.absent);

@@ -13,11 +13,11 @@ use borrow.Author.Tests.{ltb-false}
 use Rattle.sets.specs.Arrays.{tabulate}
 use Rattle.sets.specs.Laws.Arrays.{length-tabulate}
 use Rattle.roster.specs.Laws.Rulings.{inside}
-use Rattle.book.specs.Reading.{Kind, codes, rowsOf, policies, amissIf, notAbove, staffOf}
+use Rattle.book.specs.Reading.{Kind, codes, rowsOf, policiesOf, amissIf, notAbove, staffOf}
 use Rattle.book.specs.Inner.Steps.{countAmissIn}
 use Rattle.book.specs.Laws.First.{not-amiss}
 use Rattle.book.specs.declared.Form.{Form}
-use Rattle.book.specs.declared.Form.the-variants.{Old, Persons}
+use Rattle.book.specs.declared.Form.the-variants.{Old, Persons, Editions}
 use Rattle.book.specs.declared.Row.{Row}
 use Rattle.book.specs.declared.Fault.{Fault}
 use Rattle.book.specs.declared.Amiss.{Amiss}
@@ -147,6 +147,8 @@ row-look Old listed f zero = refl
 row-look Old listed f (suc i) = refl
 row-look Persons listed f zero = refl
 row-look Persons listed f (suc i) = refl
+row-look Editions listed f zero = refl
+row-look Editions listed f (suc i) = refl
 
 pub fault-by-sections : (v : Values) → faultIn (contentsFor v) ≡ firstOf (allLooks v)
 unfolding contentsFor
@@ -157,7 +159,7 @@ fault-by-sections v =
     ap firstOf
     (ap₂ (λ (l m : List Amiss). l ++ m) (section-looks codes 0 0 (countOf v Permissions) (codeIn v) refl)
     (ap₂ (λ (l m : List Amiss). l ++ m) (section-looks (rowsOf (v .form)) _ n (countOf v Rows) (λ i. rowFor (v .form) (rowIn v i)) listed ∙ ap (λ (l : List Amiss). countAmissIn Rows (countOf v Rows) ∷ l) bare)
-    (section-looks policies _ (v .«code_count») (countOf v Policies) (policyIn v) listed)))
+    (section-looks (policiesOf (v .form)) _ (v .«code_count») (countOf v Policies) (policyIn v) listed)))
 
 -- a count that nothing is amiss with is within its limit
 pub count-within : (section : Section) (n : ℕ) → countAmissIn section n ≡ Nothing → n ≤ limitIn section

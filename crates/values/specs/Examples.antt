@@ -9,9 +9,9 @@ use Rattle.sets.specs.Arrays.{tabulate}
 use Rattle.roster.specs.Refusals.{policyRuling}
 use Rattle.roster.specs.declared.Policy.{Policy}
 use Rattle.book.specs.Layout.{Contents, bytesOf, joined, fieldBytes, littleEndian}
-use Rattle.book.specs.Cases.{valuesB, bookB, valuesNewB, newB}
+use Rattle.book.specs.Cases.{valuesB, bookB, valuesNewB, newB, valuesEditionsB, editionsB}
 use Rattle.book.specs.declared.Form.{Form}
-use Rattle.book.specs.declared.Form.the-variants.{Old, Persons}
+use Rattle.book.specs.declared.Form.the-variants.{Old, Persons, Editions}
 use Rattle.book.specs.Laws.Longest.{fullest}
 use Rattle.book.specs.declared.Row.{Row}
 use Rattle.values.specs.Values.{contentsFor, valuesFor}
@@ -55,7 +55,7 @@ abbrev pub person : ℕ → ℕ → Row
 person staff holdings = record { staff = staff; person = staff; holdings = holdings }
 
 abbrev pub asks : ℕ → ℕ → ℕ → ℕ → Policy
-asks P s d t = record { task = P; away = s; crews = d; size = t }
+asks P s d t = record { task = P; away = s; crews = d; size = t; edition = 1 }
 
 -- these rows and policies, with the permissions 10 and 20
 abbrev pub two : List Row → List Policy → Contents
@@ -87,6 +87,11 @@ roomCases =
     ∷ isRefused valuesNewB 76 20
     ∷ gives (fullest Persons) 1060 (bytesOf (fullest Persons)) 0
     ∷ isRefused (fullest Persons) 1059 20
+    ∷ gives valuesEditionsB 80 editionsB 0
+    ∷ gives valuesEditionsB 81 editionsB 1
+    ∷ isRefused valuesEditionsB 79 20
+    ∷ gives (fullest Editions) 1092 (bytesOf (fullest Editions)) 0
+    ∷ isRefused (fullest Editions) 1091 20
     ∷ []
 
 -- counts at both ends, codes and rows
@@ -165,10 +170,10 @@ countedCases =
     ∷ isRefused (counting 2 4 33) 100 17
     ∷ []
 
--- the staff of the new book B in arrays, under either form: an old book has no person numbers, whatever stands there
+-- book B with editions in arrays, under each form: an old book has no person numbers and an older one no editions, whatever stands there
 abbrev pub under : Form → Contents
 under form =
-    let v = valuesFor valuesNewB in
+    let v = valuesFor valuesEditionsB in
     contentsFor (record {
       form = form;
       codes = v .codes;
@@ -185,10 +190,36 @@ formCases =
     ∷ gives (under Persons) 77 newB 0
     ∷ isRefused (record { form = Persons; codes = 10 ∷ 20 ∷ []; rows = person 102 0 ∷ person 101 0 ∷ []; policies = [] }) 100 15
     ∷ isRefused (record { form = Persons; codes = []; rows = []; policies = [] }) 100 12
+    ∷ gives (under Editions) 80 editionsB 0
+    ∷ []
+
+-- policies of these sizes and editions, beside the permissions 10 and 20, put into arrays under this form
+abbrev pub sizes : Form → List (ℕ × ℕ) → Contents
+sizes form l =
+    contentsFor (valuesFor (record {
+      form = form;
+      codes = 10 ∷ 20 ∷ [];
+      rows = [];
+      policies = map (λ (x : ℕ × ℕ). record { task = 3; away = 0; crews = 1; size = x .0; edition = x .1 }) l;
+    }))
+
+-- 25 after 5 and before the next policy; in older forms the edition is not looked at
+abbrev pub editionCases : List Example
+editionCases =
+    isRefused (sizes Editions ((1, 0) ∷ [])) 100 25
+    ∷ isRefused (sizes Editions ((1, 3) ∷ [])) 100 25
+    ∷ isRefused (sizes Editions ((1, 257) ∷ [])) 100 25
+    ∷ isRefused (sizes Editions ((0, 3) ∷ [])) 100 5
+    ∷ isRefused (sizes Editions ((1, 3) ∷ (0, 1) ∷ [])) 100 25
+    ∷ isRefused (sizes Editions ((1, 1) ∷ (0, 3) ∷ [])) 100 5
+    ∷ isRefused (sizes Editions ((1, 3) ∷ [])) 0 25
+    ∷ gives (sizes Editions ((1, 2) ∷ [])) 16 (201 ∷ 2 ∷ 10 ∷ 0 ∷ 20 ∷ 0 ∷ 0 ∷ 1 ∷ 3 ∷ 0 ∷ 0 ∷ 0 ∷ 0 ∷ 1 ∷ 1 ∷ 2 ∷ []) 0
+    ∷ gives (sizes Persons ((1, 9) ∷ [])) 15 (200 ∷ 2 ∷ 10 ∷ 0 ∷ 20 ∷ 0 ∷ 0 ∷ 1 ∷ 3 ∷ 0 ∷ 0 ∷ 0 ∷ 0 ∷ 1 ∷ 1 ∷ []) 0
+    ∷ gives (sizes Old ((1, 0) ∷ [])) 14 (2 ∷ 10 ∷ 0 ∷ 20 ∷ 0 ∷ 0 ∷ 1 ∷ 3 ∷ 0 ∷ 0 ∷ 0 ∷ 0 ∷ 1 ∷ 1 ∷ []) 0
     ∷ []
 
 abbrev pub examples : List Example
-examples = roomCases ++ countCases ++ policyCases ++ faultsTogether ++ countedCases ++ formCases
+examples = roomCases ++ countCases ++ policyCases ++ faultsTogether ++ countedCases ++ formCases ++ editionCases
 
 -- ---- the fact
 

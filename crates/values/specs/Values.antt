@@ -1,12 +1,12 @@
--- Requests 01 and 04: the values of a book, all at once, in memory. Nothing here is proved: these are definitions, and they run.
+-- Requests 01, 04 and 08: the values of a book, all at once, in memory. Nothing here is proved: these are definitions, and they run.
 use mathlib.Core.List.{List}
 use Prim.Native.Nat.{ℕ}
 use lib.ListN.{length, getD}
 use Rattle.sets.specs.Arrays.{tabulate}
 use Rattle.roster.specs.Limits.{rowLimit}
 use Rattle.roster.specs.declared.Policy.{Policy}
-use Rattle.book.specs.Layout.{Contents, rowFields, hasPersons, permissionLimit, policyLimit}
-use Rattle.book.specs.Reading.{rowWith, formOf, readOf}
+use Rattle.book.specs.Layout.{Contents, rowFields, policyFields, hasPersons, hasEditions, permissionLimit, policyLimit}
+use Rattle.book.specs.Reading.{rowWith, policyWith, formOf, readOf}
 use Rattle.book.specs.Parts.{contentsOf}
 use Rattle.book.specs.Promises.{nothing}
 use Rattle.book.specs.declared.Reading.{Reading}
@@ -20,11 +20,14 @@ abbrev pub nobody : Row
 nobody = record { staff = 0; person = 0; holdings = 0 }
 
 abbrev pub unasked : Policy
-unasked = record { task = 0; away = 0; crews = 0; size = 0 }
+unasked = record { task = 0; away = 0; crews = 0; size = 0; edition = 0 }
 
--- "the fields it has and no others": the row that the fields of its form say
+-- "the fields it has and no others": the row and the policy that the fields of their form say
 abbrev pub rowFor : Form → Row → Row
 rowFor form row = rowWith (hasPersons form) (rowFields (hasPersons form) row)
+
+abbrev pub policyFor : Form → Policy → Policy
+policyFor form p = policyWith (hasEditions form) (policyFields (hasEditions form) p)
 
 -- The values that are meant: as many as the count says, however many the arrays have room for. What stands past a count plays no part.
 unfoldable pub contentsFor : Values → Contents
@@ -32,7 +35,7 @@ contentsFor v = record {
   form = v .form;
   codes = tabulate (v .«code_count») (λ i. getD (v .codes) i 0);
   rows = tabulate (v .«row_count») (λ i. rowFor (v .form) (getD (v .rows) i nobody));
-  policies = tabulate (v .«policy_count») (λ i. getD (v .policies) i unasked);
+  policies = tabulate (v .«policy_count») (λ i. policyFor (v .form) (getD (v .policies) i unasked));
 }
 
 -- these contents in arrays, with nothing past them

@@ -7,7 +7,7 @@ use Prim.Native.Nat.{ℕ, _≤_, _<_}
 use lib.ListN.{length, drop}
 use Rattle.book.specs.Faults.{faultNumber}
 use Rattle.book.specs.Layout.{Contents, bytesOf}
-use Rattle.book.specs.Reading.{Kind, amissIf, codes, rowsOf, policies}
+use Rattle.book.specs.Reading.{Kind, amissIf, codes, rowsOf, policiesOf}
 use Rattle.book.specs.declared.Fault.{Fault}
 use Rattle.book.specs.declared.Amiss.{Amiss}
 use Rattle.book.specs.declared.Amiss.the-variants.{Nothing, Field}
@@ -16,7 +16,7 @@ use Rattle.values.specs.declared.Unwritten.the-variants as unwritten
 use Rattle.values.specs.declared.Wrote.{Wrote}
 use Rattle.values.specs.declared.Wrote.the-variants.{Written, Refused}
 
--- "Refusals: 12 to 18 and 2 to 5 as in the reader ..; then 20, the buffer is too short"
+-- "Refusals: 12 to 18 and 2 to 5 as in the reader ..; then 20, the buffer is too short"; 25 as in the reader, too
 abbrev pub unwrittenNumber : Unwritten → ℕ
 unwrittenNumber (unwritten.Fault f) = faultNumber f
 unwrittenNumber unwritten.Room = 20
@@ -36,7 +36,7 @@ abbrev pub looksIn : Contents → List Amiss
 looksIn v =
     sectionIn codes 0 (v .codes)
     ++ (sectionIn (rowsOf (v .form)) (length (v .codes)) (v .rows)
-    ++ sectionIn policies (length (v .codes)) (v .policies))
+    ++ sectionIn (policiesOf (v .form)) (length (v .codes)) (v .policies))
 
 -- the first fault, if there is one; of which field it is plays no part, "with place 0"
 unfoldable pub firstOf : List Amiss → Option Fault
@@ -46,9 +46,9 @@ firstOf (x ∷ l) = elim x [ Nothing ↦ firstOf l | Field f k ↦ some f ]
 abbrev pub faultIn : Contents → Option Fault
 faultIn v = firstOf (looksIn v)
 
--- The longest book of either form: the constant `LONGEST`. A buffer that is as long is never too short (`longest-enough`).
+-- The longest book of any form: the constant `LONGEST`. A buffer that is as long is never too short (`longest-enough`).
 abbrev pub longest : ℕ
-longest = 1060
+longest = 1092
 
 -- ---- what may be replied, and what the buffer then holds
 

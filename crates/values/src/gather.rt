@@ -35,6 +35,7 @@ pub(crate) fn unasked() -> Policy
         away: 0,
         crews: 0,
         size: 0,
+        edition: 0,
     }
 }
 

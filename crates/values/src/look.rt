@@ -4,6 +4,7 @@ use crate::First;
 use crate::Values;
 use book::Amiss;
 use book::Fault;
+use book::Form;
 use book::Row;
 use book::Section;
 use book::sections::count_amiss;
@@ -14,13 +15,15 @@ use roster::Made;
 use roster::Policy;
 ghost use mathlib.Core.Path.{_≡_};
 ghost use Prim.Native.Nat.{_≤_, _<_};
+ghost use mathlib.Core.Bool.{true};
 ghost use mathlib.Core.Option.{none};
 ghost use Rattle.roster.specs.Limits.{rowLimit};
 ghost use Rattle.book.specs.Layout.{permissionLimit, policyLimit};
 ghost use Rattle.book.specs.Reading.{policies};
-ghost use Rattle.values.specs.Values.{contentsFor};
+ghost use Rattle.book.specs.declared.Form.the-variants as old;
+ghost use Rattle.values.specs.Values.{policyFor, contentsFor};
 ghost use Rattle.values.specs.Writing.{faultIn};
-ghost use Rattle.values.specs.Inner.Looks.{limitIn, countOf, codeIn, rowIn, policyIn, leadOf, staysAt, lookAt, entryLooks, sectionLooks, told, firstLook};
+ghost use Rattle.values.specs.Inner.Looks.{limitIn, countOf, codeIn, rowIn, policyGiven, policyIn, leadOf, staysAt, lookAt, entryLooks, sectionLooks, told, firstLook};
 
 // As a wider number.
 fn wide(code: u16) -> u32
@@ -56,12 +59,45 @@ pub(crate) fn row_in(values: Values, i: usize) -> Row
     values.rows[i]
 }
 
-// The policy of this index.
+// The policy of this index, as it stands in memory.
+fn policy_given(values: Values, i: usize) -> Policy
+    requires { ⌜ i < policyLimit ⌝ }
+    ensures { λ r. ⌜ r ≡ policyGiven values i ⌝ }
+{
+    values.policies[i]
+}
+
+// A policy of a form without editions, whatever edition stands there: it is of the first.
+fn of_first(policy: Policy) -> Policy
+    ensures { λ r. ⌜ r ≡ policyFor old.Old policy ⌝ }
+{
+    Policy {
+        task: policy.task,
+        away: policy.away,
+        crews: policy.crews,
+        size: policy.size,
+        edition: 1,
+    }
+}
+
+// The policy that the fields of its form say.
+fn policy_for(form: Form, policy: Policy) -> Policy
+    ensures { λ r. ⌜ r ≡ policyFor form policy ⌝ }
+{
+    match form {
+        Form::Old => of_first(policy),
+        Form::Persons => of_first(policy),
+        Form::Editions => policy,
+    }
+}
+
+// The policy of this index that is meant.
 pub(crate) fn policy_in(values: Values, i: usize) -> Policy
     requires { ⌜ i < policyLimit ⌝ }
     ensures { λ r. ⌜ r ≡ policyIn values i ⌝ }
 {
-    values.policies[i]
+    let form = values.form;
+    policy_for(form, policy_given(values, i))
 }
 
 // The number that an entry starts with.
@@ -113,12 +149,18 @@ fn look_row(values: Values, i: usize) -> Amiss
 
 // A policy, where so many permissions are listed.
 fn policy_look(listed: usize, policy: Policy) -> Amiss
-    ensures { λ r. ⌜ r ≡ policies .faults listed none policy ⌝ }
+    ensures { λ r. ⌜ r ≡ policies true .faults listed none policy ⌝ }
 {
     if past_listed(listed, policy.task) {
         return Amiss::Field(Fault::Task, 0);
     }
-    match Policy::new(policy.task, policy.away, policy.crews, policy.size) {
+    match Policy::new(
+        policy.task,
+        policy.away,
+        policy.crews,
+        policy.size,
+        policy.edition,
+    ) {
         Made::Refused(refusal) => Amiss::Field(Fault::Policy(refusal), policy_field(refusal)),
         Made::Policy(_) => Amiss::Nothing,
     }

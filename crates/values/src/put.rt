@@ -7,17 +7,18 @@ use crate::look::row_in;
 use book::Form;
 use book::Row;
 use book::Section;
+use book::sections::policy_width;
 use book::sections::row_width;
 use roster::Policy;
 use text::put;
 ghost use mathlib.Core.Path.{_≡_};
 ghost use Prim.Native.Nat.{_%_, _≤_, _<_};
 ghost use lib.ListN.{length};
-ghost use Rattle.book.specs.Layout.{littleEndian, fieldBytes, rowWidths, rowFields, policyWidths, policyFields, hasPersons, lead, bytesOf};
+ghost use Rattle.book.specs.Layout.{littleEndian, fieldBytes, rowWidths, rowFields, policyWidths, policyFields, hasPersons, hasEditions, lead, bytesOf};
 ghost use Rattle.text.specs.Text.{Appended};
 ghost use Rattle.values.specs.Values.{contentsFor};
 ghost use Rattle.values.specs.Inner.Looks.{limitIn, countOf, Counted};
-ghost use Rattle.values.specs.Inner.Puts.{personBytes, entryBytes, sectionBytes};
+ghost use Rattle.values.specs.Inner.Puts.{personBytes, editionBytes, entryBytes, sectionBytes};
 
 // The lowest byte of a number.
 fn low(n: u64) -> u8
@@ -49,6 +50,7 @@ pub(crate) fn put_lead(out: &mut [u8], form: Form) -> usize
     match form {
         Form::Old => 0,
         Form::Persons => put(out, 0, 200),
+        Form::Editions => put(out, 0, 201),
     }
 }
 
@@ -59,6 +61,7 @@ fn put_person(out: &mut [u8], at: usize, form: Form, person: u32) -> usize
     match form {
         Form::Old => at,
         Form::Persons => put_four(out, at, text::wide(person)),
+        Form::Editions => put_four(out, at, text::wide(person)),
     }
 }
 
@@ -71,14 +74,26 @@ fn put_row(out: &mut [u8], at: usize, form: Form, row: Row) -> usize
     put_four(out, named, text::wide(row.holdings))
 }
 
-// A policy: P, then s, d, t in a byte each.
-fn put_policy(out: &mut [u8], at: usize, policy: Policy) -> usize
-    ensures { λ r. ⌜ Appended (fieldBytes policyWidths (policyFields policy)) (now (out .entry)) at (now (out .exit)) r ⌝ }
+// An edition, where the form has it.
+fn put_edition(out: &mut [u8], at: usize, form: Form, edition: u32) -> usize
+    ensures { λ r. ⌜ Appended (editionBytes (hasEditions form) edition) (now (out .entry)) at (now (out .exit)) r ⌝ }
+{
+    match form {
+        Form::Old => at,
+        Form::Persons => at,
+        Form::Editions => put(out, at, low(text::wide(edition))),
+    }
+}
+
+// A policy: P, then s, d, t in a byte each, and its edition where the form has it.
+fn put_policy(out: &mut [u8], at: usize, form: Form, policy: Policy) -> usize
+    ensures { λ r. ⌜ Appended (fieldBytes (policyWidths (hasEditions form)) (policyFields (hasEditions form) policy)) (now (out .entry)) at (now (out .exit)) r ⌝ }
 {
     let tasked = put_four(out, at, text::wide(policy.task));
     let spared = put(out, tasked, low(text::wide(policy.away)));
     let crewed = put(out, spared, low(policy.crews as u64));
-    put(out, crewed, low(text::wide(policy.size)))
+    let sized = put(out, crewed, low(text::wide(policy.size)));
+    put_edition(out, sized, form, policy.edition)
 }
 
 // An entry of the section.
@@ -90,7 +105,7 @@ fn put_entry(out: &mut [u8], at: usize, values: Values, section: Section, i: usi
     match section {
         Section::Permissions => put_two(out, at, text::wide(code_in(values, i))),
         Section::Rows => put_row(out, at, form, row_in(values, i)),
-        Section::Policies => put_policy(out, at, policy_in(values, i)),
+        Section::Policies => put_policy(out, at, form, policy_in(values, i)),
     }
 }
 
@@ -117,8 +132,9 @@ pub(crate) fn length_of(values: Values) -> usize
     let form = values.form;
     let front = form.front();
     let wide = row_width(form);
+    let asked = policy_width(form);
     let codes = count_of(values, Section::Permissions);
     let rows = count_of(values, Section::Rows);
     let policies = count_of(values, Section::Policies);
-    front + 3 + 2 * codes + wide * rows + 7 * policies
+    front + 3 + 2 * codes + wide * rows + asked * policies
 }

@@ -70,14 +70,7 @@ fn reason(
     let people = accounts::merged(accounts);
     let table = people.table;
     let numbers = people.numbers;
-    let explained = reasons::why(
-        accounts,
-        policy.task,
-        policy.crews,
-        policy.size,
-        blocker,
-        lines::ALLOWANCE,
-    );
+    let explained = reasons::why(accounts, policy, blocker, lines::ALLOWANCE);
     let told = words::away(out, at, &numbers, blocker);
     let why = explained.why;
     match why {
@@ -88,22 +81,15 @@ fn reason(
             code_of(book, permission),
             policy.crews as u64,
         ),
-        Explanation::NoCrew => words::no_crew(out, told, policy.size),
-        Explanation::Overlap => words::overlap(out, told, policy.size, policy.crews as u64),
+        Explanation::NoCrew => words::no_crew(out, told, policy),
+        Explanation::Overlap => words::overlap(out, told, policy),
         _ => words::unexplained(out, told),
     }
 }
 
 // What is said of a policy behind its index.
 fn verdict(out: &mut [u8], at: usize, book: &[u8], accounts: Accounts, policy: Policy) -> usize {
-    let reply = questions::ask_skipping(
-        accounts,
-        policy.task,
-        policy.away,
-        policy.crews,
-        policy.size,
-        lines::ALLOWANCE,
-    );
+    let reply = questions::ask_skipping(accounts, policy, lines::ALLOWANCE);
     let verdict = reply.verdict;
     match verdict {
         Verdict::No => {

@@ -72,8 +72,8 @@ pub(crate) fn scarce(out: &mut [u8], at: usize, count: u64, code: u64, crews: u6
     text::word(out, needed, b" are needed: train")
 }
 
-// How large a crew may be; nothing where there is no limit.
-fn within(out: &mut [u8], at: usize, size: u32) -> usize {
+// How large a crew may be, of which anyone may be one alone; nothing where there is no limit.
+fn at_most(out: &mut [u8], at: usize, size: u32) -> usize {
     if size >= Policy::SIZE {
         return at;
     }
@@ -84,10 +84,38 @@ fn within(out: &mut [u8], at: usize, size: u32) -> usize {
     text::decimal(out, most, text::wide(size))
 }
 
-// Reason 2.
-pub(crate) fn no_crew(out: &mut [u8], at: usize, size: u32) -> usize {
+// How large a crew may be that has two members at least.
+fn from_two(out: &mut [u8], at: usize, size: u32) -> usize {
+    if size >= Policy::SIZE {
+        return text::word(out, at, b" of 2 or more");
+    }
+    let two = text::word(out, at, b" of 2");
+    if size == 2 {
+        return two;
+    }
+    let to = text::word(out, two, b" to ");
+    text::decimal(out, to, text::wide(size))
+}
+
+// How large a crew may be.
+fn within(out: &mut [u8], at: usize, policy: Policy) -> usize {
+    if roster::least_members(policy.edition) < 2 {
+        return at_most(out, at, policy.size);
+    }
+    from_two(out, at, policy.size)
+}
+
+// Reason 2. By an edition that asks for two members a crew of one is none, whoever is there.
+pub(crate) fn no_crew(out: &mut [u8], at: usize, policy: Policy) -> usize {
+    if policy.size < roster::least_members(policy.edition) {
+        return text::word(
+            out,
+            at,
+            b"crews have at most 1 member, and edition 2 asks for 2: enlarge crews",
+        );
+    }
     let crew = text::word(out, at, b"not even one crew");
-    let limited = within(out, crew, size);
+    let limited = within(out, crew, policy);
     text::word(
         out,
         limited,
@@ -96,11 +124,11 @@ pub(crate) fn no_crew(out: &mut [u8], at: usize, size: u32) -> usize {
 }
 
 // Reason 3.
-pub(crate) fn overlap(out: &mut [u8], at: usize, size: u32, crews: u64) -> usize {
+pub(crate) fn overlap(out: &mut [u8], at: usize, policy: Policy) -> usize {
     let crew = text::word(out, at, b"one crew");
-    let limited = within(out, crew, size);
+    let limited = within(out, crew, policy);
     let formed = text::word(out, limited, b" can be formed, but not ");
-    let counted = text::decimal(out, formed, crews);
+    let counted = text::decimal(out, formed, policy.crews as u64);
     text::word(out, counted, b" at the same time: hire")
 }
 

@@ -2,7 +2,7 @@
 -- (`lends`, `ranks`), and what it tries is all that 01 lists. Assumes nothing.
 use mathlib.Core.Path.{_≡_, sym, ap, _∙_}
 use mathlib.Core.List.{List}
-use Prim.Native.Nat.{ℕ, _≤_, _<_}
+use Prim.Native.Nat.{ℕ, _^_, _≤_, _<_}
 use native.Mathlib.Omega.{arith}
 use borrow.Author.Needs.{needs}
 use lib.ListN.{getD}
@@ -51,12 +51,12 @@ start k = k .before .before .before
 
 -- its numbers are within the limits
 admitted : (k : tie.After-enum-told)
-    → policyRuling (start k .args .table .rows) (start k .args .task) (start k .args .away) (start k .args .crews) (start k .args .size) ≡ Admitted
+    → policyRuling (start k .args .table .rows) (start k .args .policy .task) (start k .args .policy .away) (start k .args .policy .crews) (start k .args .policy .size) (start k .args .policy .edition) ≡ Admitted
 admitted k = sym (k .before .before .policy-ruling .ensures) ∙ k .enum-told .given .1
 
 limits : (k : tie.After-enum-told)
-    → rulings.Within (start k .args .table .rows) (start k .args .task) (start k .args .away) (start k .args .crews) (start k .args .size)
-limits k = rulings.policy-within _ _ _ _ _ (admitted k)
+    → rulings.Within (start k .args .table .rows) (start k .args .policy .task) (start k .args .policy .away) (start k .args .policy .crews) (start k .args .policy .size) (start k .args .policy .edition)
+limits k = rulings.policy-within _ _ _ _ _ _ (admitted k)
 
 -- what is worked out of the table, where each row's permissions are counted
 module _ (k : tie.After-counts) where
@@ -67,7 +67,7 @@ module _ (k : tie.After-counts) where
   table = start begun .args .table
 
   abbrev task : ℕ
-  task = start begun .args .task
+  task = start begun .args .policy .task
 
   abbrev holds : List ℕ
   holds = k .before .before .before .before .before .holdings-within .result
@@ -98,30 +98,38 @@ weights-requires c κs =
 below-requires : tie.Need-below-requires
 below-requires c κs = search needs
 
+cast-smaller : tie.Need-cast-smaller
+cast-smaller c = search needs
+
 smaller-requires : tie.Need-smaller-requires
 smaller-requires c κs = search needs
 
 -- ---- what the search is lent is of the table
 
+-- the task has 32 bits
+narrow : (c : tie.Start) → c .args .policy .task < 2 ^ 32
+narrow c = search needs
+
 abbrev asked : tie.After-smaller → tie.After-counts
-asked c = c .before .before .before .before .before .before .before .before .before .before
+asked c = c .before .before .before .before .before .before .before .before .before .before .before
 
 abbrev searching : tie.After-smaller → Search
 searching c = record {
   task = task (asked c);
-  crews = start (begun (asked c)) .args .crews;
-  size = start (begun (asked c)) .args .size;
-  everyone = c .before .before .before .before .before .below .result;
+  crews = start (begun (asked c)) .args .policy .crews;
+  size = start (begun (asked c)) .args .policy .size;
+  edition = start (begun (asked c)) .args .policy .edition;
+  everyone = c .before .before .before .before .before .before .below .result;
   allowance = start (begun (asked c)) .args .allowance;
 }
 
 lends : (c : tie.After-smaller) → Lent (table (asked c)) (searching c) (holds (asked c)) (asked c .before .before .before .holders-of .result)
 lends c = record {
   small = small (asked c);
-  everyone = c .before .before .before .before .before .below .ensures ∙ below-within 64 _ (small (asked c));
+  everyone = c .before .before .before .before .before .before .below .ensures ∙ below-within 64 _ (small (asked c));
   few = limits (begun (asked c)) .few;
   some = limits (begun (asked c)) .task;
-  wide = start (begun (asked c)) .fits .task .fits;
+  wide = narrow (start (begun (asked c)));
   held = held (asked c);
   holding = asked c .before .before .before .holders-of .ensures .0;
 }
@@ -129,13 +137,13 @@ lends c = record {
 abbrev way : tie.After-counts → Way
 way k = wayOf (start (begun k) .args .skipping)
 
-ranks : (c : tie.After-smaller) → Ranked (way (asked c)) (table (asked c)) (task (asked c)) (c .before .before .before .before .before .before .before .before .before .ranked .result) (c .before .before .before .before .before .before .weights .result)
+ranks : (c : tie.After-smaller) → Ranked (way (asked c)) (table (asked c)) (task (asked c)) (c .before .before .before .before .before .before .before .before .before .before .ranked .result) (c .before .before .before .before .before .before .before .weights .result)
 ranks c = record {
-  row = ordered (c .before .before .before .before .before .before .before .before .before);
+  row = ordered (c .before .before .before .before .before .before .before .before .before .before);
   closes = λ r l.
-      c .before .before .before .before .before .before .weights .ensures r l
-      ∙ weight-at (table (asked c)) (task (asked c)) (small (asked c)) (holds (asked c)) (c .before .before .before .before .before .before .before .before .before .ranked .result) (held (asked c))
-      (ordered (c .before .before .before .before .before .before .before .before .before)) (start (begun (asked c)) .args .skipping) r l;
+      c .before .before .before .before .before .before .before .weights .ensures r l
+      ∙ weight-at (table (asked c)) (task (asked c)) (small (asked c)) (holds (asked c)) (c .before .before .before .before .before .before .before .before .before .before .ranked .result) (held (asked c))
+      (ordered (c .before .before .before .before .before .before .before .before .before .before)) (start (begun (asked c)) .args .skipping) r l;
 }
 
 search-all-requires : tie.Need-search-all-requires
@@ -150,7 +158,7 @@ returns c =
     let k = c .before in
     let a = k .before .before .before .before .args in
     c .refused .ensures
-    ∙ sym (ruled (wayOf (a .skipping)) (a .table) (a .task) (a .away) (a .crews) (a .size) (a .allowance) _
+    ∙ sym (ruled (wayOf (a .skipping)) (a .table) (a .policy .task) (a .policy .away) (a .policy .crews) (a .policy .size) (a .policy .edition) (a .allowance) _
     (sym (k .before .before .before .policy-ruling .ensures) ∙ k .before .refusal .given .1))
 
 returns-2 : tie.Need-returns-2
@@ -159,7 +167,7 @@ returns-2 c =
     let a = start (begun (asked k)) .args in
     c .search-all .ensures (way (asked k)) (a .table) (lends k) (ranks k)
     ∙ ap (λ (n : ℕ). searchedBy (way (asked k)) (a .table) (searching k) n) (k .smaller .ensures)
-    ∙ sym (ruled (way (asked k)) (a .table) (a .task) (a .away) (a .crews) (a .size) (a .allowance) _ (admitted (begun (asked k))))
+    ∙ sym (ruled (way (asked k)) (a .table) (a .policy .task) (a .policy .away) (a .policy .crews) (a .policy .size) (a .policy .edition) (a .allowance) _ (admitted (begun (asked k))))
 
 pub ask-spec : {M : Type 1} → statement M
 ask-spec =
@@ -175,6 +183,7 @@ ask-spec =
     ranked-requires
     weights-requires
     below-requires
+    cast-smaller
     smaller-requires
     search-all-requires
     returns

@@ -49,34 +49,34 @@ weighed-no-dearer fill other alike (A ∷ l) = go (either (other A .found)) (wei
         (record { blocked = refl; blocker = refl; need = omega (arith, alike A .need) })
 
 -- P has 32 bits
-module _ (way : Way) (table : Table) (P s d t : ℕ) (wide : P < 2 ^ 32) where
+module _ (way : Way) (table : Table) (P s d t ed : ℕ) (wide : P < 2 ^ 32) where
   -- the same blocker, if any; and "Need is redefined accordingly": it is no more than it was
-  pub policy-before-found : Admits table P s d t → NoDearer (found way table P s d t) (foundBefore way table P s d t)
+  pub policy-before-found : Admits table P s d t ed → NoDearer (found way table P s d t ed) (foundBefore way table P s d t ed)
   policy-before-found e =
-      weighed-no-dearer (filling table P d t) (fillingBefore table P d t) (same-as-before (admitted-fair table P s d t wide e) t)
+      weighed-no-dearer (filling table P d t ed) (fillingBefore table P d t ed) (same-as-before (admitted-fair table P s d t ed wide e) t ed)
       (tried way table P s)
 
   -- the rule before had a reply to every question: what the same definition gives by it
   pub policy-before-allowed : (allowance : ℕ)
-      → PolicyReplyBefore way table P s d t allowance
-      (repliedBy (policyRuling (table .rows) P s d t) (foundBefore way table P s d t) (firstBefore table P d t 0) allowance)
+      → PolicyReplyBefore way table P s d t ed allowance
+      (repliedBy (policyRuling (table .rows) P s d t ed) (foundBefore way table P s d t ed) (firstBefore table P d t ed 0) allowance)
   policy-before-allowed =
-      reply-allowed (foundBefore way table P s d t) (firstBefore table P d t 0) table P s d t
+      reply-allowed (foundBefore way table P s d t ed) (firstBefore table P d t ed 0) table P s d t ed
       (λ e b.
-      subst (FirstBlocker table P s d t) (policy-before-found e .blocker)
-      (one-blocks way table P s d t (admitted-fair table P s d t wide e) (policy-before-found e .blocked ∙ b)))
-      (λ e b. none-blocks way table P s d t (admitted-fair table P s d t wide e) (policy-before-found e .blocked ∙ b))
+      subst (FirstBlocker table P s d t ed) (policy-before-found e .blocker)
+      (one-blocks way table P s d t ed (admitted-fair table P s d t ed wide e) (policy-before-found e .blocked ∙ b)))
+      (λ e b. none-blocks way table P s d t ed (admitted-fair table P s d t ed wide e) (policy-before-found e .blocked ∙ b))
 
   -- "The first crew list is the same as under the old rule, and so are verdict and blocker whenever both decide"
-  pub policy-before-same : (a b : ℕ) (r q : Reply) → PolicyReply way table P s d t a r → PolicyReplyBefore way table P s d t b q
+  pub policy-before-same : (a b : ℕ) (r q : Reply) → PolicyReply way table P s d t ed a r → PolicyReplyBefore way table P s d t ed b q
       → r .verdict ≢ Undecided → q .verdict ≢ Undecided → (r .verdict ≡ q .verdict) × (r .crews ≡ q .crews) × (r .blocker ≡ q .blocker)
   policy-before-same a b r q =
-      decided-alike table P s d t wide (found way table P s d t) (foundBefore way table P s d t) (firstList table P d t 0) (firstBefore table P d t 0)
-      (λ e. same-as-before (admitted-fair table P s d t wide e) t 0 .crews) a b r q
+      decided-alike table P s d t ed wide (found way table P s d t ed) (foundBefore way table P s d t ed) (firstList table P d t ed 0) (firstBefore table P d t ed 0)
+      (λ e. same-as-before (admitted-fair table P s d t ed wide e) t ed 0 .crews) a b r q
 
   -- a question is decided wherever it was decided by the rule before, with no more units
-  pub policy-before-decides : (a : ℕ) (r q : Reply) → PolicyReply way table P s d t a r → PolicyReplyBefore way table P s d t a q
+  pub policy-before-decides : (a : ℕ) (r q : Reply) → PolicyReply way table P s d t ed a r → PolicyReplyBefore way table P s d t ed a q
       → q .verdict ≢ Undecided → (r .verdict ≢ Undecided) × (r .units ≤ q .units)
   policy-before-decides a r q k m =
-      decided-sooner table P s d t wide (foundBefore way table P s d t) (found way table P s d t) (firstBefore table P d t 0) (firstList table P d t 0)
+      decided-sooner table P s d t ed wide (foundBefore way table P s d t ed) (found way table P s d t ed) (firstBefore table P d t ed 0) (firstList table P d t ed 0)
       a q r (λ e. policy-before-found e .need) m k

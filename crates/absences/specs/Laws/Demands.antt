@@ -33,20 +33,20 @@ use Rattle.absences.specs.Laws.Weighed.{tried-thinned, thinned-need}
 -- ---- demand 1: every input has a reply, and only one
 
 -- whatever trying the absences comes to; P has 32 bits
-pub replies-same : (w : Found) (crews : List ℕ) (table : Table) (P s d t : ℕ) → P < 2 ^ 32 → (allowance : ℕ) (r q : Reply)
-    → PolicyReplyBy w crews table P s d t allowance r → PolicyReplyBy w crews table P s d t allowance q → r ≡ q
-replies-same w crews table P s d t wide allowance r q a b = go (policy-case (w .need) table P s d t wide allowance)
+pub replies-same : (w : Found) (crews : List ℕ) (table : Table) (P s d t ed : ℕ) → P < 2 ^ 32 → (allowance : ℕ) (r q : Reply)
+    → PolicyReplyBy w crews table P s d t ed allowance r → PolicyReplyBy w crews table P s d t ed allowance q → r ≡ q
+replies-same w crews table P s d t ed wide allowance r q a b = go (policy-case (w .need) table P s d t ed wide allowance)
   where
-    go : Case (w .need) table P s d t allowance → r ≡ q
+    go : Case (w .need) table P s d t ed allowance → r ≡ q
     go (is-refused refusal e) = a .refused refusal e ∙ sym (b .refused refusal e)
     go (is-undecided e l) = a .undecided e l ∙ sym (b .undecided e l)
     go (is-yes e l h) = a .yes e l h ∙ sym (b .yes e l h)
     go (is-no e l A f) = a .no e l A f ∙ sym (b .no e l A f)
 
 -- and one is allowed: the one that the definition gives, if what trying comes to tells whether the policy holds and else its first blocker
-module _ (w : Found) (crews : List ℕ) (table : Table) (P s d t : ℕ) (one : Admits table P s d t → w .blocked ≡ true → FirstBlocker table P s d t (w .blocker))
-    (none : Admits table P s d t → w .blocked ≡ false → Holds table P s d t) (allowance : ℕ) where
-  pub reply-allowed : PolicyReplyBy w crews table P s d t allowance (repliedBy (policyRuling (table .rows) P s d t) w crews allowance)
+module _ (w : Found) (crews : List ℕ) (table : Table) (P s d t ed : ℕ) (one : Admits table P s d t ed → w .blocked ≡ true → FirstBlocker table P s d t ed (w .blocker))
+    (none : Admits table P s d t ed → w .blocked ≡ false → Holds table P s d t ed) (allowance : ℕ) where
+  pub reply-allowed : PolicyReplyBy w crews table P s d t ed allowance (repliedBy (policyRuling (table .rows) P s d t ed) w crews allowance)
   reply-allowed = record {
     refused = λ refusal e. under e;
     undecided = λ e l. under e ∙ ap gives (verdict-late w allowance l);
@@ -57,62 +57,62 @@ module _ (w : Found) (crews : List ℕ) (table : Table) (P s d t : ℕ) (one : A
       gives : Verdict → Reply
       gives = replyWith crews (w .blocker) (w .need) allowance
 
-      under : {r : Ruling} → policyRuling (table .rows) P s d t ≡ r
-          → repliedBy (policyRuling (table .rows) P s d t) w crews allowance ≡ repliedBy r w crews allowance
+      under : {r : Ruling} → policyRuling (table .rows) P s d t ed ≡ r
+          → repliedBy (policyRuling (table .rows) P s d t ed) w crews allowance ≡ repliedBy r w crews allowance
       under e = ap (λ (x : Ruling). repliedBy x w crews allowance) e
 
-      all-well : Admits table P s d t → Holds table P s d t → (w .blocked ≡ true) ⊎ (w .blocked ≡ false) → w .blocked ≡ false
+      all-well : Admits table P s d t ed → Holds table P s d t ed → (w .blocked ≡ true) ⊎ (w .blocked ≡ false) → w .blocked ≡ false
       all-well e h (inr b) = b
-      all-well e h (inl b) = absurd (first-not-holds table P s d t (w .blocker) (one e b) h)
+      all-well e h (inl b) = absurd (first-not-holds table P s d t ed (w .blocker) (one e b) h)
 
-      stopped : Admits table P s d t → w .need ≤ allowance → (A : ℕ) → FirstBlocker table P s d t A
+      stopped : Admits table P s d t ed → w .need ≤ allowance → (A : ℕ) → FirstBlocker table P s d t ed A
           → (w .blocked ≡ true) ⊎ (w .blocked ≡ false) → gives (verdictOf w allowance) ≡ replyWith noCrews A (w .need) allowance No
       stopped e l A f (inl b) =
           ap gives (verdict-within w allowance true l b)
-          ∙ ap (λ (x : ℕ). replyWith noCrews x (w .need) allowance No) (first-blocker-unique table P s d t (w .blocker) A (one e b) f)
-      stopped e l A f (inr b) = absurd (first-not-holds table P s d t A f (none e b))
+          ∙ ap (λ (x : ℕ). replyWith noCrews x (w .need) allowance No) (first-blocker-unique table P s d t ed (w .blocker) A (one e b) f)
+      stopped e l A f (inr b) = absurd (first-not-holds table P s d t ed A f (none e b))
 
 -- by either search
-module _ (way : Way) (table : Table) (P s d t : ℕ) (wide : P < 2 ^ 32) (allowance : ℕ) where
+module _ (way : Way) (table : Table) (P s d t ed : ℕ) (wide : P < 2 ^ 32) (allowance : ℕ) where
   -- "any two replies allowed for one input are equal"
-  pub policy-same : (r q : Reply) → PolicyReply way table P s d t allowance r → PolicyReply way table P s d t allowance q → r ≡ q
-  policy-same = replies-same (found way table P s d t) (firstList table P d t 0) table P s d t wide allowance
+  pub policy-same : (r q : Reply) → PolicyReply way table P s d t ed allowance r → PolicyReply way table P s d t ed allowance q → r ≡ q
+  policy-same = replies-same (found way table P s d t ed) (firstList table P d t ed 0) table P s d t ed wide allowance
 
-  pub policy-allowed : PolicyReply way table P s d t allowance (policyReplyOf way table P s d t allowance)
+  pub policy-allowed : PolicyReply way table P s d t ed allowance (policyReplyOf way table P s d t ed allowance)
   unfolding policyReplyOf
   policy-allowed =
-      reply-allowed (found way table P s d t) (firstList table P d t 0) table P s d t
-      (λ e. one-blocks way table P s d t (admitted-fair table P s d t wide e)) (λ e. none-blocks way table P s d t (admitted-fair table P s d t wide e))
+      reply-allowed (found way table P s d t ed) (firstList table P d t ed 0) table P s d t ed
+      (λ e. one-blocks way table P s d t ed (admitted-fair table P s d t ed wide e)) (λ e. none-blocks way table P s d t ed (admitted-fair table P s d t ed wide e))
       allowance
 
   -- a reply that is allowed is this one
-  pub policy-is : (r : Reply) → PolicyReply way table P s d t allowance r → r ≡ policyReplyOf way table P s d t allowance
-  policy-is r a = policy-same r (policyReplyOf way table P s d t allowance) a policy-allowed
+  pub policy-is : (r : Reply) → PolicyReply way table P s d t ed allowance r → r ≡ policyReplyOf way table P s d t ed allowance
+  policy-is r a = policy-same r (policyReplyOf way table P s d t ed allowance) a policy-allowed
 
 -- ---- demand 2
 
 -- nobody absent is an absence, so where the policy holds there is a list with nobody absent
-pub holds-list : (table : Table) (P s d t : ℕ) → Fair table P d → Holds table P s d t → CrewList table P d t 0 (take d (firstList table P d t 0))
-holds-list table P s d t fair h = go (either (filling table P d t 0 .found))
+pub holds-list : (table : Table) (P s d t ed : ℕ) → Fair table P d → Holds table P s d t ed → CrewList table P d t ed 0 (take d (firstList table P d t ed 0))
+holds-list table P s d t ed fair h = go (either (filling table P d t ed 0 .found))
   where
-    go : (filling table P d t 0 .found ≡ true) ⊎ (filling table P d t 0 .found ≡ false) → CrewList table P d t 0 (take d (firstList table P d t 0))
-    go (inl b) = finds-list fair t 0 b
+    go : (filling table P d t ed 0 .found ≡ true) ⊎ (filling table P d t ed 0 .found ≡ false) → CrewList table P d t ed 0 (take d (firstList table P d t ed 0))
+    go (inl b) = finds-list fair t ed 0 b
     go (inr b) =
         absurd (h 0 (record { rows = pow-pos (table .rows); few = omega (arith, ones-none) })
-        (finds-none fair t 0 (pow-pos (table .rows)) b))
+        (finds-none fair t ed 0 (pow-pos (table .rows)) b))
 
 never : {A : Type 0} → _≡_ {A = ℕ} 0 1 → A
 never e = absurd (omega arith)
 
-module _ (way : Way) (table : Table) (P s d t : ℕ) (wide : P < 2 ^ 32) (allowance : ℕ) (r : Reply) (a : PolicyReply way table P s d t allowance r) where
+module _ (way : Way) (table : Table) (P s d t ed : ℕ) (wide : P < 2 ^ 32) (allowance : ℕ) (r : Reply) (a : PolicyReply way table P s d t ed allowance r) where
   -- By the row that the question falls under: there the reply is given, and what is asked of another row cannot be.
-  pub policy-exactly : Tells way table P s d t allowance r
-  policy-exactly = go (policy-case (needPolicy way table P s d t) table P s d t wide allowance)
+  pub policy-exactly : Tells way table P s d t ed allowance r
+  policy-exactly = go (policy-case (needPolicy way table P s d t ed) table P s d t ed wide allowance)
     where
       empty : r .crews ≡ noCrews → Eight d (r .crews)
       empty e = subst (Eight d) (sym e) (record { many = refl; past = λ j m. none-at j })
 
-      go : Case (needPolicy way table P s d t) table P s d t allowance → Tells way table P s d t allowance r
+      go : Case (needPolicy way table P s d t ed) table P s d t ed allowance → Tells way table P s d t ed allowance r
       go (is-refused refusal e) =
           let k = a .refused refusal e in
           let v : r .verdict ≡ Refused refusal = ap Reply.verdict k in
@@ -150,15 +150,15 @@ module _ (way : Way) (table : Table) (P s d t : ℕ) (wide : P < 2 ^ 32) (allowa
       go (is-yes e l h) =
           let k = a .yes e l h in
           let v : r .verdict ≡ Yes = ap Reply.verdict k in
-          let first : r .crews ≡ firstList table P d t 0 = ap Reply.crews k in
+          let first : r .crews ≡ firstList table P d t ed 0 = ap Reply.crews k in
           record {
             refused = λ n. (λ q. never (cc), λ q. never (cc));
             undecided = (λ q. never (cc), λ q. absurd (omega (arith, q .1)));
             yes = (λ q. (e, l, h), λ q. v);
             no = (λ q. never (cc), λ q. absurd (q .2 h));
-            crews = λ q. (first, subst (λ (c : List ℕ). CrewList table P d t 0 (take d c)) (sym first) (holds-list table P s d t (admitted-fair table P s d t wide e) h));
+            crews = λ q. (first, subst (λ (c : List ℕ). CrewList table P d t ed 0 (take d c)) (sym first) (holds-list table P s d t ed (admitted-fair table P s d t ed wide e) h));
             no-crews = λ q. absurd (q v);
-            eight = subst (Eight d) (sym first) (record { many = crews-eight table P d t 0; past = crews-past table P d t 0 });
+            eight = subst (Eight d) (sym first) (record { many = crews-eight table P d t ed 0; past = crews-past table P d t ed 0 });
             blocker = λ q. never (cc);
             no-blocker = λ q. ap Reply.blocker k;
             unspent = λ n q. never (cc);
@@ -171,12 +171,12 @@ module _ (way : Way) (table : Table) (P s d t : ℕ) (wide : P < 2 ^ 32) (allowa
           record {
             refused = λ n. (λ q. never (cc), λ q. never (cc));
             undecided = (λ q. never (cc), λ q. absurd (omega (arith, q .1)));
-            yes = (λ q. never (cc), λ q. absurd (first-not-holds table P s d t A f (q .2)));
-            no = (λ q. (e, l, first-not-holds table P s d t A f), λ q. v);
+            yes = (λ q. never (cc), λ q. absurd (first-not-holds table P s d t ed A f (q .2)));
+            no = (λ q. (e, l, first-not-holds table P s d t ed A f), λ q. v);
             crews = λ q. never (cc);
             no-crews = λ q. ap Reply.crews k;
             eight = empty (ap Reply.crews k);
-            blocker = λ q. subst (FirstBlocker table P s d t) (sym (ap Reply.blocker k)) f;
+            blocker = λ q. subst (FirstBlocker table P s d t ed) (sym (ap Reply.blocker k)) f;
             no-blocker = λ q. absurd (q v);
             unspent = λ n q. never (cc);
             spent = λ q. never (cc);
@@ -185,19 +185,19 @@ module _ (way : Way) (table : Table) (P s d t : ℕ) (wide : P < 2 ^ 32) (allowa
 
   -- "yes" exactly if every absence of at most s leaves d disjoint crews, each of at most t and covering the task
   pub policy-yes : (r .verdict ≡ Yes)
-      ↔ (Admits table P s d t
-      × (needPolicy way table P s d t ≤ allowance)
-      × ((A : ℕ) → Absence table s A → (crews : List ℕ) × CrewList table P d t A crews))
+      ↔ (Admits table P s d t ed
+      × (needPolicy way table P s d t ed ≤ allowance)
+      × ((A : ℕ) → Absence table s A → (crews : List ℕ) × CrewList table P d t ed A crews))
   policy-yes = (
-    λ q. let x = policy-exactly .yes .0 q in (x .0, x .1, holds-all (admitted-fair table P s d t wide (x .0)) s t (x .2)),
+    λ q. let x = policy-exactly .yes .0 q in (x .0, x .1, holds-all (admitted-fair table P s d t ed wide (x .0)) s t ed (x .2)),
     λ x. policy-exactly .yes .1 (x .0, x .1, λ A a b. let c = x .2 A a in b (c .0) (c .1)),
   )
 
   -- "no" exactly if one of them leaves none
   pub policy-no : (r .verdict ≡ No)
-      ↔ (Admits table P s d t
-      × (needPolicy way table P s d t ≤ allowance)
-      × ((A : ℕ) × Absence table s A × Blocks table P d t A))
+      ↔ (Admits table P s d t ed
+      × (needPolicy way table P s d t ed ≤ allowance)
+      × ((A : ℕ) × Absence table s A × Blocks table P d t ed A))
   policy-no = (
     λ q.
         let x = policy-exactly .no .0 q in
@@ -209,14 +209,14 @@ module _ (way : Way) (table : Table) (P s d t : ℕ) (wide : P < 2 ^ 32) (allowa
 -- ---- demand 3
 
 -- whatever two searches, rules of filling or allowances there are: what both decide, they decide alike
-module _ (table : Table) (P s d t : ℕ) (wide : P < 2 ^ 32) where
+module _ (table : Table) (P s d t ed : ℕ) (wide : P < 2 ^ 32) where
   abbrev Alike : Reply → Reply → Type 0
   Alike r q = (r .verdict ≡ q .verdict) × (r .crews ≡ q .crews) × (r .blocker ≡ q .blocker)
 
-  pub decided-alike : (w v : Found) (crews list : List ℕ) → (Admits table P s d t → crews ≡ list) → (a b : ℕ) (r q : Reply)
-      → PolicyReplyBy w crews table P s d t a r → PolicyReplyBy v list table P s d t b q
+  pub decided-alike : (w v : Found) (crews list : List ℕ) → (Admits table P s d t ed → crews ≡ list) → (a b : ℕ) (r q : Reply)
+      → PolicyReplyBy w crews table P s d t ed a r → PolicyReplyBy v list table P s d t ed b q
       → r .verdict ≢ Undecided → q .verdict ≢ Undecided → Alike r q
-  decided-alike w v crews list same a b r q k m dr dq = go (policy-case (w .need) table P s d t wide a) (policy-case (v .need) table P s d t wide b)
+  decided-alike w v crews list same a b r q k m dr dq = go (policy-case (w .need) table P s d t ed wide a) (policy-case (v .need) table P s d t ed wide b)
     where
       alike : {x y : Reply} → r ≡ x → q ≡ y → Alike x y → Alike r q
       alike i j (f, g, h) = (
@@ -225,25 +225,25 @@ module _ (table : Table) (P s d t : ℕ) (wide : P < 2 ^ 32) where
         ap Reply.blocker i ∙ h ∙ sym (ap Reply.blocker j),
       )
 
-      go : Case (w .need) table P s d t a → Case (v .need) table P s d t b → Alike r q
+      go : Case (w .need) table P s d t ed a → Case (v .need) table P s d t ed b → Alike r q
       go (is-refused n e) c = alike (k .refused n e) (m .refused n e) (refl, refl, refl)
       go (is-undecided e l) c = absurd (dr (ap Reply.verdict (k .undecided e l)))
       go (is-yes e l h) (is-refused n f) = never (cc)
       go (is-yes e l h) (is-undecided f j) = absurd (dq (ap Reply.verdict (m .undecided f j)))
       go (is-yes e l h) (is-yes f j i) = alike (k .yes e l h) (m .yes f j i) (refl, same e, refl)
-      go (is-yes e l h) (is-no f j B i) = absurd (first-not-holds table P s d t B i h)
+      go (is-yes e l h) (is-no f j B i) = absurd (first-not-holds table P s d t ed B i h)
       go (is-no e l A h) (is-refused n f) = never (cc)
       go (is-no e l A h) (is-undecided f j) = absurd (dq (ap Reply.verdict (m .undecided f j)))
-      go (is-no e l A h) (is-yes f j i) = absurd (first-not-holds table P s d t A h i)
+      go (is-no e l A h) (is-yes f j i) = absurd (first-not-holds table P s d t ed A h i)
       go (is-no e l A h) (is-no f j B i) = alike (k .no e l A h) (m .no f j A h) (refl, refl, refl)
 
   -- with no more need a reply is decided whenever the other is, with no more units
-  pub decided-sooner : (w v : Found) (crews list : List ℕ) (a : ℕ) (r q : Reply) → (Admits table P s d t → v .need ≤ w .need)
-      → PolicyReplyBy w crews table P s d t a r → PolicyReplyBy v list table P s d t a q
+  pub decided-sooner : (w v : Found) (crews list : List ℕ) (a : ℕ) (r q : Reply) → (Admits table P s d t ed → v .need ≤ w .need)
+      → PolicyReplyBy w crews table P s d t ed a r → PolicyReplyBy v list table P s d t ed a q
       → r .verdict ≢ Undecided → (q .verdict ≢ Undecided) × (q .units ≤ r .units)
-  decided-sooner w v crews list a r q less k m dr = go (policy-case (w .need) table P s d t wide a)
+  decided-sooner w v crews list a r q less k m dr = go (policy-case (w .need) table P s d t ed wide a)
     where
-      go : Case (w .need) table P s d t a → (q .verdict ≢ Undecided) × (q .units ≤ r .units)
+      go : Case (w .need) table P s d t ed a → (q .verdict ≢ Undecided) × (q .units ≤ r .units)
       go (is-refused n e) =
           let x = ap Reply.verdict (m .refused n e) in
           (λ u. never (cc), omega (arith, ap Reply.units (k .refused n e), ap Reply.units (m .refused n e)))
@@ -260,32 +260,32 @@ module _ (table : Table) (P s d t : ℕ) (wide : P < 2 ^ 32) where
           (λ u. never (cc), omega (arith, ap Reply.units i, ap Reply.units (k .no e l A f)))
 
   -- "the search that skips and the search that skips nothing give the same verdict, crews and blocker whenever both decide"
-  pub demand-3-same : (a b : ℕ) (r q : Reply) → PolicyReply full table P s d t a r → PolicyReply skipping table P s d t b q
+  pub demand-3-same : (a b : ℕ) (r q : Reply) → PolicyReply full table P s d t ed a r → PolicyReply skipping table P s d t ed b q
       → r .verdict ≢ Undecided → q .verdict ≢ Undecided → (r .verdict ≡ q .verdict) × (r .crews ≡ q .crews) × (r .blocker ≡ q .blocker)
   demand-3-same =
-      let crews : List ℕ = firstList table P d t 0 in
-      decided-alike (found full table P s d t) (found skipping table P s d t) crews crews (λ e. refl)
+      let crews : List ℕ = firstList table P d t ed 0 in
+      decided-alike (found full table P s d t ed) (found skipping table P s d t ed) crews crews (λ e. refl)
 
   -- "with no more work counted": the first blocker is worth trying, so what is skipped before it only costs the other search units
-  pub demand-3-need : Admits table P s d t → needPolicy skipping table P s d t ≤ needPolicy full table P s d t
+  pub demand-3-need : Admits table P s d t ed → needPolicy skipping table P s d t ed ≤ needPolicy full table P s d t ed
   demand-3-need e =
-      thinned-need (filling table P d t) table P (tried-thinned table P s) (tried-ascending full table P s) (λ B st.
-      let f = stops-first full table P s d t (admitted-fair table P s d t wide e) B st in
-      tried-complete skipping table P s B (record { rows = f .rows; few = f .is .0 }) (first-picked table P s d t skipping B f))
+      thinned-need (filling table P d t ed) table P (tried-thinned table P s) (tried-ascending full table P s) (λ B st.
+      let f = stops-first full table P s d t ed (admitted-fair table P s d t ed wide e) B st in
+      tried-complete skipping table P s B (record { rows = f .rows; few = f .is .0 }) (first-picked table P s d t ed skipping B f))
 
   -- "The skipping one decides whenever the other does", with no more units
-  pub demand-3-decides : (a : ℕ) (r q : Reply) → PolicyReply full table P s d t a r → PolicyReply skipping table P s d t a q
+  pub demand-3-decides : (a : ℕ) (r q : Reply) → PolicyReply full table P s d t ed a r → PolicyReply skipping table P s d t ed a q
       → r .verdict ≢ Undecided → (q .verdict ≢ Undecided) × (q .units ≤ r .units)
   demand-3-decides a r q =
-      let crews : List ℕ = firstList table P d t 0 in
-      decided-sooner (found full table P s d t) (found skipping table P s d t) crews crews a r q demand-3-need
+      let crews : List ℕ = firstList table P d t ed 0 in
+      decided-sooner (found full table P s d t ed) (found skipping table P s d t ed) crews crews a r q demand-3-need
 
   -- "a larger allowance never alters a decided reply"
-  pub demand-3-larger : (way : Way) (a b : ℕ) (r q : Reply) → a ≤ b → PolicyReply way table P s d t a r → PolicyReply way table P s d t b q
+  pub demand-3-larger : (way : Way) (a b : ℕ) (r q : Reply) → a ≤ b → PolicyReply way table P s d t ed a r → PolicyReply way table P s d t ed b q
       → r .verdict ≢ Undecided → q ≡ r
-  demand-3-larger way a b r q l k m dr = go (policy-case (needPolicy way table P s d t) table P s d t wide a)
+  demand-3-larger way a b r q l k m dr = go (policy-case (needPolicy way table P s d t ed) table P s d t ed wide a)
     where
-      go : Case (needPolicy way table P s d t) table P s d t a → q ≡ r
+      go : Case (needPolicy way table P s d t ed) table P s d t ed a → q ≡ r
       go (is-refused n e) = m .refused n e ∙ sym (k .refused n e)
       go (is-undecided e j) = absurd (dr (ap Reply.verdict (k .undecided e j)))
       go (is-yes e j h) = m .yes e (omega arith) h ∙ sym (k .yes e j h)

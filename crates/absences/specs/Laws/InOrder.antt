@@ -15,11 +15,11 @@ use Rattle.absences.specs.Laws.Decided.{admitted-fair}
 use Rattle.absences.specs.Laws.Demands.{policy-exactly}
 
 -- P has 32 bits
-pub policy-in-order : (way : Way) (table : Table) (P s d t : ℕ) → P < 2 ^ 32 → (allowance : ℕ) (r : Reply)
-    → PolicyReply way table P s d t allowance r → r .verdict ≡ Yes → InOrder table P d (r .crews)
-policy-in-order way table P s d t wide allowance r a v =
-    let told = policy-exactly way table P s d t wide allowance r a in
-    let fair = admitted-fair table P s d t wide (told .yes .0 v .0) in
+pub policy-in-order : (way : Way) (table : Table) (P s d t ed : ℕ) → P < 2 ^ 32 → (allowance : ℕ) (r : Reply)
+    → PolicyReply way table P s d t ed allowance r → r .verdict ≡ Yes → InOrder table P d (r .crews)
+policy-in-order way table P s d t ed wide allowance r a v =
+    let told = policy-exactly way table P s d t ed wide allowance r a in
+    let fair = admitted-fair table P s d t ed wide (told .yes .0 v .0) in
     let list = told .crews v in
     subst (InOrder table P d) (sym (list .0))
-    (filling-in-order fair t 0 (list-found fair t 0 (pow-pos (table .rows)) (take d (r .crews)) (list .1)))
+    (filling-in-order fair t ed 0 (list-found fair t ed 0 (pow-pos (table .rows)) (take d (r .crews)) (list .1)))

@@ -25,8 +25,8 @@ sumOf f [] = 0
 sumOf f (A ∷ l) = f A + sumOf f l
 
 -- "An absence tried costs one unit plus its placements."
-abbrev pub cost : Table → ℕ → ℕ → ℕ → ℕ → ℕ
-cost table P d t A = 1 + needNamed table P d t A
+abbrev pub cost : Table → ℕ → ℕ → ℕ → ℕ → ℕ → ℕ
+cost table P d t ed A = 1 + needNamed table P d t ed A
 
 -- ---- what a list needs
 
@@ -72,36 +72,36 @@ module _ (fill : ℕ → Outcome) where
 
 -- ---- what a policy question needs
 
-module _ (way : Way) (table : Table) (P s d t : ℕ) (wide : P < 2 ^ 32) (admitted : Admits table P s d t) where
+module _ (way : Way) (table : Table) (P s d t ed : ℕ) (wide : P < 2 ^ 32) (admitted : Admits table P s d t ed) where
   fair : Fair table P d
-  fair = admitted-fair table P s d t wide admitted
+  fair = admitted-fair table P s d t ed wide admitted
 
   -- the filling finds a list for what is tried and does not block
-  does-fit : (A : ℕ) → List·Memᴰ A (tried way table P s) → (Blocks table P d t A → ⊥) → fits (filling table P d t) A ≡ true
+  does-fit : (A : ℕ) → List·Memᴰ A (tried way table P s) → (Blocks table P d t ed A → ⊥) → fits (filling table P d t ed) A ≡ true
   does-fit A i n =
-      ⊎-elim (λ e. e) (λ e. absurd (n (finds-none fair t A (tried-sound way table P s A i .0 .rows) e))) (either (fits (filling table P d t) A))
+      ⊎-elim (λ e. e) (λ e. absurd (n (finds-none fair t ed A (tried-sound way table P s A i .0 .rows) e))) (either (fits (filling table P d t ed) A))
 
   -- all of the list, if nothing in it blocks
-  pub need-all : ((A : ℕ) → List·Memᴰ A (tried way table P s) → Blocks table P d t A → ⊥)
-      → needPolicy way table P s d t ≡ sumOf (cost table P d t) (tried way table P s)
-  need-all none = all-summed (filling table P d t) (tried way table P s) (λ A i. does-fit A i (none A i))
+  pub need-all : ((A : ℕ) → List·Memᴰ A (tried way table P s) → Blocks table P d t ed A → ⊥)
+      → needPolicy way table P s d t ed ≡ sumOf (cost table P d t ed) (tried way table P s)
+  need-all none = all-summed (filling table P d t ed) (tried way table P s) (λ A i. does-fit A i (none A i))
 
   -- the list up to and including B, if B is the first in it that blocks
-  pub need-first : (l m : List ℕ) (B : ℕ) → tried way table P s ≡ l ++ (B ∷ m) → ((A : ℕ) → List·Memᴰ A l → Blocks table P d t A → ⊥)
-      → Blocks table P d t B → needPolicy way table P s d t ≡ sumOf (cost table P d t) (l ++ (B ∷ []))
+  pub need-first : (l m : List ℕ) (B : ℕ) → tried way table P s ≡ l ++ (B ∷ m) → ((A : ℕ) → List·Memᴰ A l → Blocks table P d t ed A → ⊥)
+      → Blocks table P d t ed B → needPolicy way table P s d t ed ≡ sumOf (cost table P d t ed) (l ++ (B ∷ []))
   need-first l m B split none b =
-      ap (need (filling table P d t)) split
-      ∙ first-summed (filling table P d t) l m B
-      (λ A i. does-fit A (subst (List·Memᴰ A) (sym split) (Memᴰ·append-left (B ∷ m) i)) (none A i)) (blocks-none fair t B b)
+      ap (need (filling table P d t ed)) split
+      ∙ first-summed (filling table P d t ed) l m B
+      (λ A i. does-fit A (subst (List·Memᴰ A) (sym split) (Memᴰ·append-left (B ∷ m) i)) (none A i)) (blocks-none fair t ed B b)
 
   -- more than the placements with its first blocker absent, which are part of it
-  pub blocker-need : (B : ℕ) → FirstBlocker table P s d t B → needNamed table P d t B < needPolicy way table P s d t
-  blocker-need B f = go (either (found way table P s d t .blocked))
+  pub blocker-need : (B : ℕ) → FirstBlocker table P s d t ed B → needNamed table P d t ed B < needPolicy way table P s d t ed
+  blocker-need B f = go (either (found way table P s d t ed .blocked))
     where
-      go : (found way table P s d t .blocked ≡ true) ⊎ (found way table P s d t .blocked ≡ false)
-          → needNamed table P d t B < needPolicy way table P s d t
+      go : (found way table P s d t ed .blocked ≡ true) ⊎ (found way table P s d t ed .blocked ≡ false)
+          → needNamed table P d t ed B < needPolicy way table P s d t ed
       go (inl e) =
-          subst (λ (A : ℕ). needNamed table P d t A < needPolicy way table P s d t)
-          (first-blocker-unique table P s d t (found way table P s d t .blocker) B (one-blocks way table P s d t fair e) f)
-          (stopped-paid (filling table P d t) (tried way table P s) e)
-      go (inr e) = absurd (first-not-holds table P s d t B f (none-blocks way table P s d t fair e))
+          subst (λ (A : ℕ). needNamed table P d t ed A < needPolicy way table P s d t ed)
+          (first-blocker-unique table P s d t ed (found way table P s d t ed .blocker) B (one-blocks way table P s d t ed fair e) f)
+          (stopped-paid (filling table P d t ed) (tried way table P s) e)
+      go (inr e) = absurd (first-not-holds table P s d t ed B f (none-blocks way table P s d t ed fair e))

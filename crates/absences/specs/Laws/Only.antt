@@ -75,5 +75,5 @@ module _ (way : Way) (table : Table) (P s : ℕ) where
       (λ A i. let q = x .sound A i in y .complete A (q .0) (q .1)) (λ A i. let q = y .sound A i in x .complete A (q .0) (q .1))
 
   -- so the need is that of any such list
-  pub need-only : (d t : ℕ) (l : List ℕ) → Lists way table P s l → weighed (filling table P d t) l .need ≡ needPolicy way table P s d t
-  need-only d t l x = ap (λ (m : List ℕ). weighed (filling table P d t) m .need) (tried-only l x)
+  pub need-only : (d t ed : ℕ) (l : List ℕ) → Lists way table P s l → weighed (filling table P d t ed) l .need ≡ needPolicy way table P s d t ed
+  need-only d t ed l x = ap (λ (m : List ℕ). weighed (filling table P d t ed) m .need) (tried-only l x)

@@ -89,22 +89,22 @@ module _ (table other : Table) (P : ℕ) (same : Agree table other P) where
   pub same-tried : (way : Way) (s : ℕ) → tried way table P s ≡ tried way other P s
   same-tried way s = ap (λ (l : List ℕ). 0 ∷ l) (same-sizes way _ _) ∙ ap (λ (n : ℕ). 0 ∷ sizesTo way other P (min s n)) (same .count)
 
-  module _ (d t : ℕ) where
+  module _ (d t ed : ℕ) where
     -- and trying them comes to the same
-    pub same-weighed : (l : List ℕ) → weighed (filling table P d t) l ≡ weighed (filling other P d t) l
-    same-weighed l = ap (λ (fill : ℕ → Outcome). weighed fill l) (fun-ext (same-filling table other P same d t))
+    pub same-weighed : (l : List ℕ) → weighed (filling table P d t ed) l ≡ weighed (filling other P d t ed) l
+    same-weighed l = ap (λ (fill : ℕ → Outcome). weighed fill l) (fun-ext (same-filling table other P same d t ed))
 
-    same-reply : (way : Way) (s allowance : ℕ) → policyReplyOf way table P s d t allowance ≡ policyReplyOf way other P s d t allowance
+    same-reply : (way : Way) (s allowance : ℕ) → policyReplyOf way table P s d t ed allowance ≡ policyReplyOf way other P s d t ed allowance
     unfolding policyReplyOf
     same-reply way s allowance =
-        ap (λ (n : ℕ). repliedBy (policyRuling n P s d t) (found way table P s d t) (filling table P d t 0 .crews) allowance) (same .count)
-        ∙ ap₂ (λ (w : Found) (o : Outcome). repliedBy (policyRuling (other .rows) P s d t) w (o .crews) allowance)
-        (ap (weighed (filling table P d t)) (same-tried way s) ∙ same-weighed (tried way other P s)) (same-filling table other P same d t 0)
+        ap (λ (n : ℕ). repliedBy (policyRuling n P s d t ed) (found way table P s d t ed) (filling table P d t ed 0 .crews) allowance) (same .count)
+        ∙ ap₂ (λ (w : Found) (o : Outcome). repliedBy (policyRuling (other .rows) P s d t ed) w (o .crews) allowance)
+        (ap (weighed (filling table P d t ed)) (same-tried way s) ∙ same-weighed (tried way other P s)) (same-filling table other P same d t ed 0)
 
 -- Tables that agree within P below the count get equal replies, by either search.
-pub policy-agree : (way : Way) (table other : Table) (P s d t allowance : ℕ) → P < 2 ^ 32 → Agree table other P → (r q : Reply)
-    → PolicyReply way table P s d t allowance r → PolicyReply way other P s d t allowance q → r ≡ q
-policy-agree way table other P s d t allowance wide same r q a b =
-    policy-is way table P s d t wide allowance r a
-    ∙ same-reply table other P same d t way s allowance
-    ∙ sym (policy-is way other P s d t wide allowance q b)
+pub policy-agree : (way : Way) (table other : Table) (P s d t ed allowance : ℕ) → P < 2 ^ 32 → Agree table other P → (r q : Reply)
+    → PolicyReply way table P s d t ed allowance r → PolicyReply way other P s d t ed allowance q → r ≡ q
+policy-agree way table other P s d t ed allowance wide same r q a b =
+    policy-is way table P s d t ed wide allowance r a
+    ∙ same-reply table other P same d t ed way s allowance
+    ∙ sym (policy-is way other P s d t ed wide allowance q b)

@@ -134,10 +134,11 @@ module _ (a : Accounts) where
       (e, accounts-heads (personsOf set) (persons-lt set) ∙ ap (headsIn a) e)
 
   -- crews of persons give crews of accounts
-  pub to-accounts : (P d t A : ℕ) (crews : List ℕ) → PersonCrews a P d t A crews → AccountCrews a P d t (accountsOf a A) (map (accountsOf a) crews)
-  to-accounts P d t A crews k = record {
+  pub to-accounts : (P d t ed A : ℕ) (crews : List ℕ) → PersonCrews a P d t ed A crews → AccountCrews a P d t ed (accountsOf a A) (map (accountsOf a) crews)
+  to-accounts P d t ed A crews k = record {
     many = length-map crews (accountsOf a) ∙ k .many;
     small = λ j l. subst (AccountSet a t) (sym (accounts-at crews j)) (account-set t (getD crews j 0) (k .are j l) (k .small j l));
+    enough = λ j l. rw (accounts-at crews j) (omega (arith, accounts-heads (getD crews j 0) (k .are j l), k .enough j l));
     disjoint = λ i j li lj n.
         subst (λ (x : ℕ). Apart x (getD (map (accountsOf a) crews) j 0)) (sym (accounts-at crews i))
         (subst (Apart (accountsOf a (getD crews i 0))) (sym (accounts-at crews j))
@@ -150,8 +151,8 @@ module _ (a : Accounts) where
   }
 
   -- and the other way
-  pub to-persons : (P d t A : ℕ) (crews : List ℕ) → AccountCrews a P d t (accountsOf a A) crews → PersonCrews a P d t A (map personsOf crews)
-  to-persons P d t A crews k = record {
+  pub to-persons : (P d t ed A : ℕ) (crews : List ℕ) → AccountCrews a P d t ed (accountsOf a A) crews → PersonCrews a P d t ed A (map personsOf crews)
+  to-persons P d t ed A crews k = record {
     many = length-map crews personsOf ∙ k .many;
     are = λ j l. rw (persons-at crews j) (persons-lt (getD crews j 0));
     disjoint = λ i j li lj n.
@@ -165,6 +166,7 @@ module _ (a : Accounts) where
         (accounts-apart (personsOf (getD crews j 0)) A (persons-lt (getD crews j 0)) .1
         (subst (λ (x : ℕ). Apart x (accountsOf a A)) (sym (back j l)) (k .present j l)));
     small = λ j l. rw (persons-at crews j) (omega (arith, person-set t (getD crews j 0) (k .small j l) .1, k .small j l .few));
+    enough = λ j l. rw (persons-at crews j) (omega (arith, person-set t (getD crews j 0) (k .small j l) .1, k .enough j l));
     whole = λ j l p hp.
         let q = k .whole j l p hp in
         let w = accounts-has a (personsOf (getD crews j 0)) (q .0) .0 (subst (λ (x : ℕ). Has x (q .0)) (sym (back j l)) (q .1)) in
@@ -175,34 +177,34 @@ module _ (a : Accounts) where
       back j l = person-set t (getD crews j 0) (k .small j l) .0
 
   -- persons block exactly if their accounts do
-  pub accounts-block : (P d t A : ℕ) → PersonsBlock a P d t A ↔ AccountsBlock a P d t (accountsOf a A)
-  accounts-block P d t A = (
-    λ h crews c. h (map personsOf crews) (to-persons P d t A crews c),
-    λ h crews c. h (map (accountsOf a) crews) (to-accounts P d t A crews c),
+  pub accounts-block : (P d t ed A : ℕ) → PersonsBlock a P d t ed A ↔ AccountsBlock a P d t ed (accountsOf a A)
+  accounts-block P d t ed A = (
+    λ h crews c. h (map personsOf crews) (to-persons P d t ed A crews c),
+    λ h crews c. h (map (accountsOf a) crews) (to-accounts P d t ed A crews c),
   )
 
   -- accounts block exactly if their persons do
-  persons-block : (P d t most set : ℕ) → AccountSet a most set → AccountsBlock a P d t set → PersonsBlock a P d t (personsOf set)
-  persons-block P d t most set k b = accounts-block P d t (personsOf set) .1 (subst (AccountsBlock a P d t) (sym (person-set most set k .0)) b)
+  persons-block : (P d t ed most set : ℕ) → AccountSet a most set → AccountsBlock a P d t ed set → PersonsBlock a P d t ed (personsOf set)
+  persons-block P d t ed most set k b = accounts-block P d t ed (personsOf set) .1 (subst (AccountsBlock a P d t ed) (sym (person-set most set k .0)) b)
 
-  pub accounts-hold : (P s d t : ℕ) → PersonsHold a P s d t ↔ AccountsHold a P s d t
-  accounts-hold P s d t = (
-    λ h away k b. h (personsOf away) (persons-lt away) (omega (arith, person-set s away k .1, k .few)) (persons-block P d t s away k b),
-    λ h A wide few b. h (accountsOf a A) (account-set s A wide few) (accounts-block P d t A .0 b),
+  pub accounts-hold : (P s d t ed : ℕ) → PersonsHold a P s d t ed ↔ AccountsHold a P s d t ed
+  accounts-hold P s d t ed = (
+    λ h away k b. h (personsOf away) (persons-lt away) (omega (arith, person-set s away k .1, k .few)) (persons-block P d t ed s away k b),
+    λ h A wide few b. h (accountsOf a A) (account-set s A wide few) (accounts-block P d t ed A .0 b),
   )
 
   -- the first set of persons that blocks is one of a smallest: a set of fewer persons would come before it
-  pub first-smallest : (P s d t A : ℕ) → FirstPersonsBlock a P s d t A → SmallestBlock a P s d t (accountsOf a A)
-  first-smallest P s d t A first = record {
+  pub first-smallest : (P s d t ed A : ℕ) → FirstPersonsBlock a P s d t ed A → SmallestBlock a P s d t ed (accountsOf a A)
+  first-smallest P s d t ed A first = record {
     is = account-set s A (first .rows) (first .is .0);
-    blocks = accounts-block P d t A .0 (first .is .1);
+    blocks = accounts-block P d t ed A .0 (first .is .1);
     smallest = λ other k b. go other k b (decLe (headsIn a (accountsOf a A)) (headsIn a other));
   }
     where
-      go : (other : ℕ) → AccountSet a s other → AccountsBlock a P d t other → Dec (headsIn a (accountsOf a A) ≤ headsIn a other)
+      go : (other : ℕ) → AccountSet a s other → AccountsBlock a P d t ed other → Dec (headsIn a (accountsOf a A) ≤ headsIn a other)
           → headsIn a (accountsOf a A) ≤ headsIn a other
       go other k b (yes l) = l
       go other k b (no n) =
           let e = person-set s other k .1 in
-          absurd (first .first (personsOf other) (persons-lt other) (omega (arith, k .few), persons-block P d t s other k b)
+          absurd (first .first (personsOf other) (persons-lt other) (omega (arith, k .few), persons-block P d t ed s other k b)
           (inl (omega (arith, accounts-heads A (first .rows)))))

@@ -124,14 +124,15 @@ module _ (a : Accounts) where
           )
 
   -- so crew lists of the merged table are crew lists of persons
-  pub crews-of-persons : (P d t A : ℕ) (crews : List ℕ) → CrewList (merged a) P d t A crews ↔ PersonCrews a P d t A crews
-  crews-of-persons P d t A crews = (
+  pub crews-of-persons : (P d t ed A : ℕ) (crews : List ℕ) → CrewList (merged a) P d t ed A crews ↔ PersonCrews a P d t ed A crews
+  crews-of-persons P d t ed A crews = (
     λ k. record {
       many = k .many;
       are = k .rows;
       disjoint = k .disjoint;
       present = k .present;
       small = k .small;
+      enough = k .enough;
       whole = λ j l. covers-together P (getD crews j 0) .0 (k .whole j l);
     },
     λ k. record {
@@ -140,29 +141,30 @@ module _ (a : Accounts) where
       disjoint = k .disjoint;
       present = k .present;
       small = k .small;
+      enough = k .enough;
       whole = λ j l. covers-together P (getD crews j 0) .1 (k .whole j l);
     },
   )
 
-  pub blocks-of-persons : (P d t A : ℕ) → Blocks (merged a) P d t A ↔ PersonsBlock a P d t A
-  blocks-of-persons P d t A = (
-    λ b crews c. b crews (crews-of-persons P d t A crews .1 c),
-    λ b crews c. b crews (crews-of-persons P d t A crews .0 c),
+  pub blocks-of-persons : (P d t ed A : ℕ) → Blocks (merged a) P d t ed A ↔ PersonsBlock a P d t ed A
+  blocks-of-persons P d t ed A = (
+    λ b crews c. b crews (crews-of-persons P d t ed A crews .1 c),
+    λ b crews c. b crews (crews-of-persons P d t ed A crews .0 c),
   )
 
   -- what holds of the merged table holds of persons
-  pub holds-of-persons : (P s d t : ℕ) → Holds (merged a) P s d t ↔ PersonsHold a P s d t
-  holds-of-persons P s d t = (
-    λ h A wide few b. h A (record { rows = wide; few = few }) (blocks-of-persons P d t A .1 b),
-    λ h A k b. h A (k .rows) (k .few) (blocks-of-persons P d t A .0 b),
+  pub holds-of-persons : (P s d t ed : ℕ) → Holds (merged a) P s d t ed ↔ PersonsHold a P s d t ed
+  holds-of-persons P s d t ed = (
+    λ h A wide few b. h A (record { rows = wide; few = few }) (blocks-of-persons P d t ed A .1 b),
+    λ h A k b. h A (k .rows) (k .few) (blocks-of-persons P d t ed A .0 b),
   )
 
   -- and its first blocker is the first of persons
-  pub first-of-persons : (P s d t A : ℕ) → FirstBlocker (merged a) P s d t A → FirstPersonsBlock a P s d t A
-  first-of-persons P s d t A f = record {
+  pub first-of-persons : (P s d t ed A : ℕ) → FirstBlocker (merged a) P s d t ed A → FirstPersonsBlock a P s d t ed A
+  first-of-persons P s d t ed A f = record {
     rows = f .rows;
-    is = (f .is .0, blocks-of-persons P d t A .0 (f .is .1));
-    first = λ B wide q. f .first B wide (q .0, blocks-of-persons P d t B .1 (q .1));
+    is = (f .is .0, blocks-of-persons P d t ed A .0 (f .is .1));
+    first = λ B wide q. f .first B wide (q .0, blocks-of-persons P d t ed B .1 (q .1));
   }
 
   -- the set of their accounts, as a set of rows

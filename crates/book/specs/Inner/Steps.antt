@@ -8,7 +8,8 @@ use lib.ListN.{length}
 use Rattle.roster.specs.Limits.{rowLimit}
 use Rattle.roster.specs.Refusals.{made}
 use Rattle.roster.specs.declared.Made.{Made}
-use Rattle.book.specs.Reading.{number, notAbove, prior, codes, rowsOf, policies, width, entryAt, amissIf, faultIf, countAt, entryLook, inTurn, sectionLooks, past, front, looksFromPolicies, looksFromRows, firstFault}
+use Rattle.book.specs.Layout.{policyLimit}
+use Rattle.book.specs.Reading.{number, notAbove, prior, codes, rowsOf, policiesOf, width, entryAt, amissIf, faultIf, countAt, entryLook, inTurn, sectionLooks, past, front, looksFromPolicies, looksFromRows, firstFault}
 use Rattle.book.specs.declared.Form.{Form}
 use Rattle.book.specs.declared.Section.{Section}
 use Rattle.book.specs.declared.Section.the-variants.{Permissions, Rows, Policies}
@@ -30,7 +31,7 @@ use Rattle.book.specs.declared.Reading.the-variants as read
 abbrev pub widthIn : Form → Section → ℕ
 widthIn form Permissions = width codes
 widthIn form Rows = width (rowsOf form)
-widthIn form Policies = width policies
+widthIn form Policies = width (policiesOf form)
 
 -- the number that an entry starts with: a code, a staff number, P
 abbrev pub leadIn : Section → List ℕ → ℕ → ℕ
@@ -46,12 +47,12 @@ staysIn section book c = notAbove (prior (leadIn section book) (c .before)) (lea
 abbrev pub outIn : Section → ℕ → Bool
 outIn Permissions = codes .outOfRange
 outIn Rows = ltb rowLimit
-outIn Policies = policies .outOfRange
+outIn Policies = ltb policyLimit
 
 abbrev pub countFaultIn : Section → Fault
 countFaultIn Permissions = codes .countFault
 countFaultIn Rows = fault.Rows
-countFaultIn Policies = policies .countFault
+countFaultIn Policies = fault.Policies
 
 -- a count by itself, and one of the book
 abbrev pub countAmissIn : Section → ℕ → Amiss
@@ -64,13 +65,13 @@ countIn section book at =
     Sound)
 
 -- what the policy makes that stands here
-abbrev pub madeAt : List ℕ → ℕ → Made
-madeAt book at = made (entryAt policies book at)
+abbrev pub madeAt : Form → List ℕ → ℕ → Made
+madeAt form book at = made (entryAt (policiesOf form) book at)
 
 abbrev pub lookIn : Form → Section → List ℕ → ℕ → Before → ℕ → Look
 lookIn form Permissions = entryLook codes
 lookIn form Rows = entryLook (rowsOf form)
-lookIn form Policies = entryLook policies
+lookIn form Policies = entryLook (policiesOf form)
 
 -- past an entry of this width
 abbrev pub pastEntry : Cursor → ℕ → Cursor
@@ -88,12 +89,12 @@ startAt at = record { before = Nothing; at = at }
 abbrev pub looksIn : Form → Section → List ℕ → ℕ → ℕ → List Look
 looksIn form Permissions = sectionLooks codes
 looksIn form Rows = sectionLooks (rowsOf form)
-looksIn form Policies = sectionLooks policies
+looksIn form Policies = sectionLooks (policiesOf form)
 
 abbrev pub pastIn : Form → Section → List ℕ → ℕ → ℕ
 pastIn form Permissions = past codes
 pastIn form Rows = past (rowsOf form)
-pastIn form Policies = past policies
+pastIn form Policies = past (policiesOf form)
 
 unfoldable pub stepIn : Form → Section → List ℕ → ℕ → ℕ → Step
 stepIn form section book listed at =

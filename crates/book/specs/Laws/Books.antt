@@ -1,6 +1,6 @@
 -- The reader and the layout: a book is good exactly if it is the layout of admitted values, which are unique; it is refused exactly with its
 -- first fault; and so every byte string has one reply. Assumes nothing.
-use mathlib.Core.Path.{_≡_, refl, sym, ap, _∙_}
+use mathlib.Core.Path.{_≡_, refl, sym, ap, ap₂, _∙_}
 use mathlib.Core.Logic.{_⊎_, inl, inr, _↔_, _≢_}
 use mathlib.Core.Bool.{Bool, true, false}
 use mathlib.Core.List.{List, [], _∷_, _++_, append-nil}
@@ -12,17 +12,18 @@ use lib.ListN.{length, getD, take, drop, length-append, drop-of-length-le, take-
 use borrow.Author.Tests.{ltb-false, le-ltb, ne-eqb, eqb-true}
 use Rattle.roster.specs.Limits.{rowLimit}
 use Rattle.roster.specs.Refusals.{outside}
+use Rattle.roster.specs.declared.Policy.{Policy}
 use Rattle.roster.specs.Laws.Rulings.{inside}
-use Rattle.book.specs.Layout.{Contents, codeWidths, rowWidths, policyWidths, codeFields, rowFields, policyFields, hasPersons, lead, permissionLimit, policyLimit, section, bytesOf, Each, Admitted, LayoutOf}
-use Rattle.book.specs.Reading.{codes, rowsOf, policies, countAt, sectionLooks, past, formBy, formOf, front, listedIn, endLook, looksFromPolicies, looksFromRows, looksBy, looks, firstFault, startsOf, readBy, readOf}
+use Rattle.book.specs.Layout.{Contents, codeWidths, rowWidths, policyWidths, codeFields, rowFields, policyFields, hasPersons, hasEditions, lead, permissionLimit, policyLimit, section, bytesOf, Each, Admitted, LayoutOf}
+use Rattle.book.specs.Reading.{codes, rowsOf, policiesOf, countAt, sectionLooks, past, formBy, formOf, front, listedIn, endLook, looksFromPolicies, looksFromRows, looksBy, looks, firstFault, startsOf, readBy, readOf}
 use Rattle.book.specs.Parts.{contentsBy, contentsOf, valuesAt}
 use Rattle.book.specs.Promises.{Bytes, AllSound, FirstFault, startsFor, Allows}
 use Rattle.book.specs.Laws.First.{not-faulty, no-fault, sound-append, append-sound, all-sound, first-faulty, Split, split}
 use Rattle.book.specs.Laws.Sections.{Codec, entries-length, entries-fit, section-read, section-write, SectionSound, section-sound, sound-section}
-use Rattle.book.specs.Laws.Values.{code-codec, row-codec, policy-codec, each, codes-sound, sound-codes, rows-sound, sound-rows, policies-sound, sound-policies, code-fits, fits-code, each-row-fits, row-fits, fits-row, policy-fits}
+use Rattle.book.specs.Laws.Values.{code-codec, row-codec, policy-codec, each, codes-sound, sound-codes, rows-sound, sound-rows, policies-sound, sound-policies, code-fits, fits-code, each-row-fits, row-fits, fits-row, each-policy-fits, fits-edition}
 use Rattle.book.specs.Laws.Codec.{after}
 use Rattle.book.specs.declared.Form.{Form}
-use Rattle.book.specs.declared.Form.the-variants.{Old, Persons}
+use Rattle.book.specs.declared.Form.the-variants.{Old, Persons, Editions}
 use Rattle.book.specs.declared.Row.{Row}
 use Rattle.book.specs.declared.Fault.{Fault}
 use Rattle.book.specs.declared.Fault.the-variants as fault
@@ -47,12 +48,19 @@ rowFieldsOf form = rowFields (hasPersons form)
 abbrev pub rowCodecOf : (form : Form) → Codec (rowsOf form) (rowFieldsOf form)
 rowCodecOf form = row-codec (hasPersons form)
 
+-- and those of a policy
+abbrev pub policyFieldsOf : Form → Policy → List ℕ
+policyFieldsOf form = policyFields (hasEditions form)
+
+abbrev pub policyCodecOf : (form : Form) → Codec (policiesOf form) (policyFieldsOf form)
+policyCodecOf form = policy-codec (hasEditions form)
+
 module _ (form : Form) where
   pub record BookSound (book : List ℕ) : Type 0 where
     pub first : SectionSound codes codeFields code-codec book 0 (front form)
     pub second : SectionSound (rowsOf form) (rowFieldsOf form) (rowCodecOf form) book (listedIn form book) (rowsAt form book)
-    pub third : SectionSound policies policyFields policy-codec book (listedIn form book) (policiesAt form book)
-    pub ends : length book ≤ past policies book (policiesAt form book)
+    pub third : SectionSound (policiesOf form) (policyFieldsOf form) (policyCodecOf form) book (listedIn form book) (policiesAt form book)
+    pub ends : length book ≤ past (policiesOf form) book (policiesAt form book)
 
   pub sound-book : (book : List ℕ) → AllSound (looksBy form book) → BookSound book
   unfolding Each
@@ -60,25 +68,25 @@ module _ (form : Form) where
       let n = listedIn form book in
       let one = sound-append (sectionLooks codes book 0 (front form)) (looksFromRows form book (rowsAt form book)) h in
       let two = sound-append (sectionLooks (rowsOf form) book n (rowsAt form book)) (looksFromPolicies form book (policiesAt form book)) (one .1) in
-      let three = sound-append (sectionLooks policies book n (policiesAt form book)) (endLook book (past policies book (policiesAt form book)) ∷ []) (two .1) in
+      let three = sound-append (sectionLooks (policiesOf form) book n (policiesAt form book)) (endLook book (past (policiesOf form) book (policiesAt form book)) ∷ []) (two .1) in
       record {
         first = section-sound codes codeFields code-codec book 0 (front form) (one .0);
         second = section-sound (rowsOf form) (rowFieldsOf form) (rowCodecOf form) book n (rowsAt form book) (two .0);
-        third = section-sound policies policyFields policy-codec book n (policiesAt form book) (three .0);
-        ends = ltb-false (past policies book (policiesAt form book)) (length book) (not-faulty _ _ _ _ (three .1 .0) .0);
+        third = section-sound (policiesOf form) (policyFieldsOf form) (policyCodecOf form) book n (policiesAt form book) (three .0);
+        ends = ltb-false (past (policiesOf form) book (policiesAt form book)) (length book) (not-faulty _ _ _ _ (three .1 .0) .0);
       }
 
   pub book-sound : (book : List ℕ) → BookSound book → AllSound (looksBy form book)
   unfolding Each
   book-sound book s =
       let n = listedIn form book in
-      let end = no-fault (ltb (past policies book (policiesAt form book)) (length book)) fault.Excess _ Sound (le-ltb _ _ (s .ends)) refl in
+      let end = no-fault (ltb (past (policiesOf form) book (policiesAt form book)) (length book)) fault.Excess _ Sound (le-ltb _ _ (s .ends)) refl in
       append-sound (sectionLooks codes book 0 (front form)) (looksFromRows form book (rowsAt form book))
       (sound-section codes codeFields code-codec book 0 (front form) (s .first))
       (append-sound (sectionLooks (rowsOf form) book n (rowsAt form book)) (looksFromPolicies form book (policiesAt form book))
       (sound-section (rowsOf form) (rowFieldsOf form) (rowCodecOf form) book n (rowsAt form book) (s .second))
-      (append-sound (sectionLooks policies book n (policiesAt form book)) (endLook book (past policies book (policiesAt form book)) ∷ [])
-      (sound-section policies policyFields policy-codec book n (policiesAt form book) (s .third))
+      (append-sound (sectionLooks (policiesOf form) book n (policiesAt form book)) (endLook book (past (policiesOf form) book (policiesAt form book)) ∷ [])
+      (sound-section (policiesOf form) (policyFieldsOf form) (policyCodecOf form) book n (policiesAt form book) (s .third))
       (end, tt)))
 
   pub front-within : (book : List ℕ) → BookSound book → front form ≤ length book
@@ -92,14 +100,14 @@ module _ (form : Form) where
   sound-bytes book bytes leads s =
       let one = section-write codes codeFields code-codec book (front form) bytes (s .first .whole) in
       let two = section-write (rowsOf form) (rowFieldsOf form) (rowCodecOf form) book (rowsAt form book) bytes (s .second .whole) in
-      let three = section-write policies policyFields policy-codec book (policiesAt form book) bytes (s .third .whole) in
-      let none : drop (past policies book (policiesAt form book)) book ≡ [] = drop-of-length-le book (s .ends) in
+      let three = section-write (policiesOf form) (policyFieldsOf form) (policyCodecOf form) book (policiesAt form book) bytes (s .third .whole) in
+      let none : drop (past (policiesOf form) book (policiesAt form book)) book ≡ [] = drop-of-length-le book (s .ends) in
       sym (take-append-drop (front form) book)
       ∙ ap (λ (l : List ℕ). l ++ drop (front form) book) leads
       ∙ ap (λ (l : List ℕ). lead form ++ l) (one
       ∙ ap (λ (l : List ℕ). section codeWidths codeFields (valuesAt codes book (front form)) ++ l) (two
       ∙ ap (λ (l : List ℕ). section (rowWidths (hasPersons form)) (rowFieldsOf form) (valuesAt (rowsOf form) book (rowsAt form book)) ++ l) (three
-      ∙ ap (λ (l : List ℕ). section policyWidths policyFields (valuesAt policies book (policiesAt form book)) ++ l) none
+      ∙ ap (λ (l : List ℕ). section (policyWidths (hasEditions form)) (policyFieldsOf form) (valuesAt (policiesOf form) book (policiesAt form book)) ++ l) none
       ∙ append-nil _)))
 
   pub sound-admitted : (book : List ℕ) → Bytes book → BookSound book → Admitted (contentsBy form book)
@@ -115,7 +123,7 @@ module _ (form : Form) where
         some = rw listed (range .0);
         permissions = rw listed (range .1);
         rows = rw (entries-length (rowsOf form) (rowFieldsOf form) (rowCodecOf form) book (rowsAt form book + 1) (countAt book (rowsAt form book))) (ltb-false _ _ (s .second .inRange));
-        policies = rw (entries-length policies policyFields policy-codec book (policiesAt form book + 1) (countAt book (policiesAt form book))) (ltb-false _ _ (s .third .inRange));
+        policies = rw (entries-length (policiesOf form) (policyFieldsOf form) (policyCodecOf form) book (policiesAt form book + 1) (countAt book (policiesAt form book))) (ltb-false _ _ (s .third .inRange));
         codes = each fits-code (valuesAt codes book (front form)) (entries-fit codes codeFields code-codec book (front form + 1) n bytes);
         codesAscend = codes-sound 0 (valuesAt codes book (front form)) (s .first .values);
         staff = each (λ row h. fits-row (hasPersons form) row h .0) people fit;
@@ -123,36 +131,47 @@ module _ (form : Form) where
         persons = each (λ row h. fits-row (hasPersons form) row h .1) people fit;
         own = each (λ row h. fits-row (hasPersons form) row h .2) people fit;
         holdings = rw listed (held .1);
-        sound = rw listed (policies-sound n none (valuesAt policies book (policiesAt form book)) (s .third .values));
+        sound = rw listed (policies-sound (hasEditions form) n none (valuesAt (policiesOf form) book (policiesAt form book)) (s .third .values));
+        editions = each (fits-edition (hasEditions form)) (valuesAt (policiesOf form) book (policiesAt form book))
+            (entries-fit (policiesOf form) (policyFieldsOf form) (policyCodecOf form) book (policiesAt form book + 1) (countAt book (policiesAt form book)) bytes);
       }
 
 -- ---- the form is told by the first byte
 
-first-byte : (book : List ℕ) → getD book 0 0 ≡ 200 → 1 ≤ length book → take 1 book ≡ 200 ∷ []
-first-byte [] e h = absurd (omega arith)
-first-byte (x ∷ l) e h = ap (λ (y : ℕ). y ∷ []) e
+first-byte : (lead : ℕ) (book : List ℕ) → getD book 0 0 ≡ lead → 1 ≤ length book → take 1 book ≡ lead ∷ []
+first-byte lead [] e h = absurd (omega arith)
+first-byte lead (x ∷ l) e h = ap (λ (y : ℕ). y ∷ []) e
 
 form-lead : (book : List ℕ) → front (formOf book) ≤ length book → take (front (formOf book)) book ≡ lead (formOf book)
 unfolding formOf
-form-lead book h = go (eqb (getD book 0 0) 200) refl h
+form-lead book h = go (eqb (getD book 0 0) 200) (eqb (getD book 0 0) 201) refl refl h
   where
-    go : (b : Bool) → eqb (getD book 0 0) 200 ≡ b → front (formBy b) ≤ length book → take (front (formBy b)) book ≡ lead (formBy b)
-    go false e h = refl
-    go true e h = first-byte book (eqb-true (getD book 0 0) 200 e) h
+    go : (b c : Bool) → eqb (getD book 0 0) 200 ≡ b → eqb (getD book 0 0) 201 ≡ c → front (formBy b c) ≤ length book
+        → take (front (formBy b c)) book ≡ lead (formBy b c)
+    go true c e f h = first-byte 200 book (eqb-true (getD book 0 0) 200 e) h
+    go false true e f h = first-byte 201 book (eqb-true (getD book 0 0) 201 f) h
+    go false false e f h = refl
 
-pub by-lead : (form : Form) (np : ℕ) (rest : List ℕ) → (form ≡ Old → np ≢ 200) → formBy (eqb (getD (lead form ++ (np ∷ rest)) 0 0) 200) ≡ form
-by-lead Old np rest n = ap formBy (ne-eqb np 200 (n refl))
+-- the form of a book that starts with this byte
+abbrev pub formFrom : ℕ → Form
+formFrom first = formBy (eqb first 200) (eqb first 201)
+
+pub by-lead : (form : Form) (np : ℕ) (rest : List ℕ) → (form ≡ Old → (np ≢ 200) × (np ≢ 201)) → formFrom (getD (lead form ++ (np ∷ rest)) 0 0) ≡ form
+by-lead Old np rest n = ap₂ formBy (ne-eqb np 200 (n refl .0)) (ne-eqb np 201 (n refl .1))
 by-lead Persons np rest n = refl
+by-lead Editions np rest n = refl
 
 -- "an old one, which can't start so": the form that was written is read
 pub laid-form : (v : Contents) (book : List ℕ) → LayoutOf v book → formOf book ≡ v .form
 unfolding formOf bytesOf
 laid-form v book l =
-    ap (λ (b : List ℕ). formBy (eqb (getD b 0 0) 200)) (l .bytes) ∙ by-lead (v .form) (length (v .codes)) _ (λ old many. omega (arith, l .admitted .permissions))
+    let few = l .admitted .permissions in
+    ap (λ (b : List ℕ). formFrom (getD b 0 0)) (l .bytes) ∙ by-lead (v .form) (length (v .codes)) _ (λ old. (λ many. omega (arith, few), λ many. omega (arith, few)))
 
 pub lead-front : (form : Form) → length (lead form) ≡ front form
 lead-front Old = refl
 lead-front Persons = refl
+lead-front Editions = refl
 
 -- ---- a layout is a book without fault, and its values are read back
 
@@ -180,7 +199,7 @@ laid v book l =
     let np = length (v .codes) in
     let sec1 = section codeWidths codeFields (v .codes) in
     let sec2 = section (rowWidths (hasPersons form)) (rowFieldsOf form) (v .rows) in
-    let sec3 = section policyWidths policyFields (v .policies) in
+    let sec3 = section (policyWidths (hasEditions form)) (policyFieldsOf form) (v .policies) in
     let begins = lead-front form in
     let first : front form ≡ 0 + length (lead form) = omega arith in
     let after-lead : drop (front form) book ≡ sec1 ++ (sec2 ++ sec3) =
@@ -188,10 +207,10 @@ laid v book l =
     let fit1 = each code-fits (v .codes) (a .codes) in
     let fit2 = each (row-fits (hasPersons form) np (a .permissions)) (v .rows)
     (each-row-fits (hasPersons form) np (v .rows) (a .staff) (a .persons) (a .own) (a .holdings)) in
-    let fit3 = each (policy-fits np (a .permissions)) (v .policies) (a .sound) in
+    let fit3 = each-policy-fits (hasEditions form) np (a .permissions) (v .policies) (a .sound) (a .editions) in
     let one = section-read codes codeFields code-codec (v .codes) book (front form) (sec2 ++ sec3) fit1 after-lead in
     let two = section-read (rowsOf form) (rowFieldsOf form) (rowCodecOf form) (v .rows) book (rowsAt form book) sec3 fit2 (one .left) in
-    let three = section-read policies policyFields policy-codec (v .policies) book (policiesAt form book) [] fit3 (two .left ∙ sym (append-nil sec3)) in
+    let three = section-read (policiesOf form) (policyFieldsOf form) (policyCodecOf form) (v .policies) book (policiesAt form book) [] fit3 (two .left ∙ sym (append-nil sec3)) in
     let lead-long = length-append (lead form) (sec1 ++ (sec2 ++ sec3)) in
     let long : length book ≡ length (lead form) + (length sec1 + (length sec2 + length sec3)) =
     ap length (l .bytes) ∙ omega (arith, lead-long, length-append sec1 (sec2 ++ sec3), length-append sec2 sec3) in
@@ -214,7 +233,7 @@ laid v book l =
         third = record {
           inRange = ap (ltb policyLimit) (three .count) ∙ le-ltb _ _ (a .policies);
           whole = omega arith;
-          values = rw (one .count, three .values) (sound-policies np none (v .policies) (a .sound));
+          values = rw (one .count, three .values) (sound-policies (hasEditions form) np none (v .policies) (a .sound));
         };
         ends = omega arith;
       };

@@ -1,5 +1,5 @@
 -- Request 05. A refused book's place is the first byte of the field that its fault speaks of, for 11 of the first field that is not whole; no number
--- moved, and of the places only those of 3, 4, 5, 11 and 16. Assumes nothing.
+-- moved, and of the places only those of 3, 4, 5, 11, 16 and 25. Assumes nothing.
 use mathlib.Core.Path.{_≡_, refl, sym, ap, _∙_, subst}
 use mathlib.Core.Logic.{_⊎_, inl, inr}
 use mathlib.Core.Bool.{Bool, true, false}
@@ -19,12 +19,12 @@ use Rattle.roster.specs.declared.Refusal.{Refusal}
 use Rattle.roster.specs.declared.Refusal.the-variants as refusal
 use Rattle.book.specs.Layout.{Each}
 use Rattle.book.specs.Faults.{faultNumber, faultOf}
-use Rattle.book.specs.Reading.{Kind, total, fieldPlace, cutPlace, amissIf, faultIf, placed, notAbove, pastListed, staffOf, fieldOf, byMade, codes, rowsOf, policies, width, entryAt, prior, countLook, entryLook, inTurn, countAt, sectionLooks, past, formOf, listedIn, endLook, looksFromPolicies, looksFromRows, looksBy, firstFault, startsOf, readOf}
+use Rattle.book.specs.Reading.{Kind, total, fieldPlace, cutPlace, amissIf, faultIf, placed, notAbove, pastListed, staffOf, fieldOf, byMade, codes, rowsOf, policiesOf, width, entryAt, prior, countLook, entryLook, inTurn, countAt, sectionLooks, past, formOf, listedIn, endLook, looksFromPolicies, looksFromRows, looksBy, firstFault, startsOf, readOf}
 use Rattle.book.specs.FieldPlaces.{entryPlace, FieldIn, CutIn, CutSection, Points}
 use Rattle.book.specs.EntryPlaces.{atEntry, entryWas, sectionWas, readWas, PlaceStays, Beside}
 use Rattle.book.specs.Laws.Books.{refused-first-fault}
 use Rattle.book.specs.declared.Form.{Form}
-use Rattle.book.specs.declared.Form.the-variants.{Old, Persons}
+use Rattle.book.specs.declared.Form.the-variants.{Old, Persons, Editions}
 use Rattle.book.specs.declared.Row.{Row}
 use Rattle.book.specs.declared.Fault.{Fault}
 use Rattle.book.specs.declared.Fault.the-variants as fault
@@ -159,8 +159,9 @@ module _ (form : Form) (book : List ℕ) where
       go : (f : Form) → 0 < length (rowsOf f .widths)
       go Old = omega arith
       go Persons = omega arith
+      go Editions = omega arith
 
-  made-speaks : (m : Made) → Speaks policies (startsOf form book .policies) (omega arith) (λ at c. inr (inr c)) (byMade m)
+  made-speaks : (m : Made) → Speaks (policiesOf form) (startsOf form book .policies) (omega arith) (λ at c. inr (inr c)) (byMade m)
   made-speaks (variants.Policy p) = tt
   made-speaks (variants.Refused r) = λ at f. f
 
@@ -169,17 +170,17 @@ module _ (form : Form) (book : List ℕ) where
   looks-pointed =
       let n = listedIn form book in
       let s = startsOf form book in
-      let end = past policies book (s .policies) in
+      let end = past (policiesOf form) book (s .policies) in
       let one = section-pointed codes (s .permissions) (omega arith) (λ at c. inl c) refl 0 (λ before x.
       speaks-if codes (s .permissions) (omega arith) (λ at c. inl c) (notAbove before x) fault.Code 0 amiss.Nothing (λ at f. f) tt) in
       let two = section-pointed (rowsOf form) (s .rows) row-fields (λ at c. inr (inl c)) refl n (λ before x.
       speaks-if (rowsOf form) (s .rows) row-fields (λ at c. inr (inl c)) (notAbove (staffOf before) (x .staff)) fault.Staff 0 _ (λ at f. f)
       (speaks-if (rowsOf form) (s .rows) row-fields (λ at c. inr (inl c)) (pastListed n (x .holdings)) fault.Holdings _ amiss.Nothing (λ at f. f) tt)) in
-      let three = section-pointed policies (s .policies) (omega arith) (λ at c. inr (inr c)) refl n (λ before x.
-      speaks-if policies (s .policies) (omega arith) (λ at c. inr (inr c)) (pastListed n (x .task)) fault.Task 0 (byMade (made x)) (λ at f. f) (made-speaks (made x))) in
+      let three = section-pointed (policiesOf form) (s .policies) (omega arith) (λ at c. inr (inr c)) refl n (λ before x.
+      speaks-if (policiesOf form) (s .policies) (omega arith) (λ at c. inr (inr c)) (pastListed n (x .task)) fault.Task 0 (byMade (made x)) (λ at f. f) (made-speaks (made x))) in
       all-pointed (sectionLooks codes book 0 (s .permissions)) (looksFromRows form book (s .rows)) one
       (all-pointed (sectionLooks (rowsOf form) book n (s .rows)) (looksFromPolicies form book (s .policies)) two
-      (all-pointed (sectionLooks policies book n (s .policies)) (endLook book end ∷ []) three
+      (all-pointed (sectionLooks (policiesOf form) book n (s .policies)) (endLook book end ∷ []) three
       (pointed-if (ltb end (length book)) fault.Excess end Sound (λ e. refl) tt, tt)))
 
 -- "The place should be the first byte of the field at fault": of every refused book
@@ -191,7 +192,7 @@ field-place book f at e =
 -- "for 11, the first byte of the field that isn't whole": it is not, and every field of its entry before it is
 pub cut-place : (book : List ℕ) (at : ℕ) → readOf book ≡ read.Refused fault.Short at
     → let s = startsOf (formOf book) book in
-    CutSection codes book (s .permissions) at ⊎ (CutSection (rowsOf (formOf book)) book (s .rows) at ⊎ CutSection policies book (s .policies) at)
+    CutSection codes book (s .permissions) at ⊎ (CutSection (rowsOf (formOf book)) book (s .rows) at ⊎ CutSection (policiesOf (formOf book)) book (s .policies) at)
 cut-place book at e = field-place book fault.Short at e
 
 -- ---- beside the rule before
@@ -242,16 +243,19 @@ leads-if true f k rest p q = p
 leads-if false f k rest p q = q
 
 -- the numbers whose places move
-moves : (n : ℕ) {k : ℕ} → ((3 ≤ n) × (n ≤ 5)) ⊎ ((n ≡ 11) ⊎ (n ≡ 16)) → PlaceStays n → k ≡ 0
+moves : (n : ℕ) {k : ℕ} → ((3 ≤ n) × (n ≤ 5)) ⊎ ((n ≡ 11) ⊎ ((n ≡ 16) ⊎ (n ≡ 25))) → PlaceStays n → k ≡ 0
 moves n (inl h) (inl e) = absurd (omega (arith, h .0))
 moves n (inl h) (inr (inl s)) = absurd (omega (arith, h .1, s .0))
 moves n (inl h) (inr (inr s)) = absurd (omega (arith, h .1, s .0))
 moves n (inr (inl h)) (inl e) = absurd (omega arith)
 moves n (inr (inl h)) (inr (inl s)) = absurd (omega (arith, s .0))
 moves n (inr (inl h)) (inr (inr s)) = absurd (omega (arith, s .0))
-moves n (inr (inr h)) (inl e) = absurd (omega arith)
-moves n (inr (inr h)) (inr (inl s)) = absurd (omega (arith, s .1))
-moves n (inr (inr h)) (inr (inr s)) = absurd (omega (arith, s .0))
+moves n (inr (inr (inl h))) (inl e) = absurd (omega arith)
+moves n (inr (inr (inl h))) (inr (inl s)) = absurd (omega (arith, s .1))
+moves n (inr (inr (inl h))) (inr (inr s)) = absurd (omega (arith, s .0))
+moves n (inr (inr (inr h))) (inl e) = absurd (omega arith)
+moves n (inr (inr (inr h))) (inr (inl s)) = absurd (omega (arith, s .1))
+moves n (inr (inr (inr h))) (inr (inr s)) = absurd (omega (arith, s .1))
 
 refusal-leads : (r : Refusal) → PlaceStays (faultNumber (fault.Policy r)) → fieldOf r ≡ 0
 refusal-leads refusal.Rows s = refl
@@ -260,6 +264,7 @@ refusal-leads refusal.Away s = moves 3 (inl (omega arith, omega arith)) s
 refusal-leads refusal.Crews s = moves 4 (inl (omega arith, omega arith)) s
 refusal-leads refusal.Size s = moves 5 (inl (omega arith, omega arith)) s
 refusal-leads refusal.Absence s = refl
+refusal-leads refusal.Edition s = moves 25 (inr (inr (inr refl))) s
 
 made-leads : (m : Made) → Leads (byMade m)
 made-leads (variants.Policy p) = tt
@@ -271,10 +276,10 @@ code-leads listed before x = leads-if (notAbove before x) fault.Code 0 amiss.Not
 row-leads : (form : Form) (listed : ℕ) (before : Option Row) (x : Row) → Leads (rowsOf form .faults listed before x)
 row-leads form listed before x =
     leads-if (notAbove (staffOf before) (x .staff)) fault.Staff 0 _ (λ s. refl)
-    (leads-if (pastListed listed (x .holdings)) fault.Holdings _ amiss.Nothing (λ s. moves 16 (inr (inr refl)) s) tt)
+    (leads-if (pastListed listed (x .holdings)) fault.Holdings _ amiss.Nothing (λ s. moves 16 (inr (inr (inl refl))) s) tt)
 
-policy-leads : (listed : ℕ) (before : Option Policy) (x : Policy) → Leads (policies .faults listed before x)
-policy-leads listed before x = leads-if (pastListed listed (x .task)) fault.Task 0 (byMade (made x)) (λ s. refl) (made-leads (made x))
+policy-leads : (form : Form) (listed : ℕ) (before : Option Policy) (x : Policy) → Leads (policiesOf form .faults listed before x)
+policy-leads form listed before x = leads-if (pastListed listed (x .task)) fault.Task 0 (byMade (made x)) (λ s. refl) (made-leads (made x))
 
 placed-beside : (ws : List ℕ) (at : ℕ) (x : Amiss) → Leads x → LookBeside (placed ws at x) (atEntry at x)
 placed-beside ws at amiss.Nothing l = tt
@@ -314,12 +319,12 @@ as-before book =
     let form = formOf book in
     let n = listedIn form book in
     let s = startsOf form book in
-    let end = endLook book (past policies book (s .policies)) in
+    let end = endLook book (past (policiesOf form) book (s .policies)) in
     first-beside s _ _
     (beside-append (sectionLooks codes book 0 (s .permissions)) (sectionWas codes book 0 (s .permissions)) _ _ (section-beside codes code-leads book 0 (s .permissions))
     (beside-append (sectionLooks (rowsOf form) book n (s .rows)) (sectionWas (rowsOf form) book n (s .rows)) _ _ (section-beside (rowsOf form) (row-leads form) book n (s .rows))
-    (beside-append (sectionLooks policies book n (s .policies)) (sectionWas policies book n (s .policies)) (end ∷ []) (end ∷ [])
-    (section-beside policies policy-leads book n (s .policies)) (look-same end, tt))))
+    (beside-append (sectionLooks (policiesOf form) book n (s .policies)) (sectionWas (policiesOf form) book n (s .policies)) (end ∷ []) (end ∷ [])
+    (section-beside (policiesOf form) (policy-leads form) book n (s .policies)) (look-same end, tt))))
 
 -- "The order of checks stays": the fault, and so the number, is that of the rule before, for every byte string
 pub number-stays : (book : List ℕ) → faultOf (readOf book) ≡ faultOf (readWas book)

@@ -12,12 +12,12 @@ use Rattle.roster.specs.declared.Policy.{Policy}
 use Rattle.roster.specs.declared.Ruling.{Ruling}
 use Rattle.accounts.specs.declared.Accounts.{Accounts}
 use Rattle.book.specs.Layout.{Contents, Each, PolicyFits, LayoutOf}
-use Rattle.book.specs.Reading.{codes, rowsOf, policies, width, entryAt, countAt, formOf, front, readOf, startsOf}
-use Rattle.book.specs.Parts.{valuesAt, contentsBy, startsIn, startsBy, placeOf, codeFrom, codeCount, rowPlace, rowFrom, rowByNumber, rowOr0, accountsIn, policyCount, listedBy, policyFrom, policyAt}
+use Rattle.book.specs.Reading.{codes, rowsOf, policiesOf, width, entryAt, countAt, formOf, front, readOf, startsOf}
+use Rattle.book.specs.Parts.{valuesAt, contentsBy, startsIn, startsBy, placeOf, codeFrom, codeCount, rowPlace, rowFrom, rowByNumber, rowOr0, accountsIn, policyCount, listedBy, policyFrom, policyPlace, policyAt}
 use Rattle.book.specs.Promises.{codeBy, rowBy, policyBy, accountsFor, PartsOf, nothing}
 use Rattle.book.specs.Laws.Sections.{entries-length}
-use Rattle.book.specs.Laws.Values.{code-codec, policy-codec}
-use Rattle.book.specs.Laws.Books.{rowsAt, policiesAt, rowCodecOf, laid, layout-good}
+use Rattle.book.specs.Laws.Values.{code-codec}
+use Rattle.book.specs.Laws.Books.{rowsAt, policiesAt, rowCodecOf, policyCodecOf, laid, layout-good}
 use Rattle.book.specs.Laws.Places.{standing, standing-value, standing-none}
 use Rattle.book.specs.declared.Fault.{Fault}
 use Rattle.book.specs.declared.Place.{Place}
@@ -36,10 +36,10 @@ row-from : (book : List ℕ) (p : Place) → rowFrom book p ≡ rowBy (standing 
 row-from book (At at) = refl
 row-from book Nothing = refl
 
-policy-from : (book : List ℕ) (listed : ℕ) (p : Place) → ((x : Policy) → standing policies book p ≡ some x → PolicyFits listed x)
-    → policyFrom book p ≡ policyBy (standing policies book p)
+policy-from : (book : List ℕ) (listed : ℕ) (p : Place) → ((x : Policy) → standing (policiesOf (formOf book)) book p ≡ some x → PolicyFits listed x)
+    → policyFrom book p ≡ policyBy (standing (policiesOf (formOf book)) book p)
 policy-from book listed (At at) fits =
-    let p = entryAt policies book at in
+    let p = entryAt (policiesOf (formOf book)) book at in
     ap (λ (r : Ruling). listedBy (madeBy r p)) (fits p refl .sound)
 policy-from book listed Nothing fits = refl
 
@@ -58,7 +58,7 @@ module _ (v : Contents) (book : List ℕ) (listed : ℕ)
     (policyCounted : countAt book (startsIn book .policies) ≡ length (v .policies))
     (code : (i : ℕ) → standing codes book (placeOf (width codes) book (startsIn book .permissions) i) ≡ getElem? (v .codes) i)
     (row : (i : ℕ) → standing (rowsOf (formOf book)) book (placeOf (width (rowsOf (formOf book))) book (startsIn book .rows) i) ≡ getElem? (v .rows) i)
-    (policy : (i : ℕ) → standing policies book (placeOf (width policies) book (startsIn book .policies) i) ≡ getElem? (v .policies) i)
+    (policy : (i : ℕ) → standing (policiesOf (formOf book)) book (placeOf (width (policiesOf (formOf book))) book (startsIn book .policies) i) ≡ getElem? (v .policies) i)
     (fits : Each (PolicyFits listed) (v .policies)) where
   seen : (i : ℕ) → rowByNumber book i ≡ rowBy (getElem? (v .rows) i)
   seen i = row-from book (rowPlace book (startsIn book) i) ∙ ap rowBy (row i)
@@ -80,7 +80,7 @@ module _ (v : Contents) (book : List ℕ) (listed : ℕ)
     accounts = accounts;
     policies = policyCounted;
     policy = λ i.
-        policy-from book listed (placeOf (width policies) book (startsIn book .policies) i)
+        policy-from book listed (policyPlace book (startsIn book .policies) i)
         (λ x e. each-nth (PolicyFits listed) (v .policies) i x fits (sym (policy i) ∙ e))
         ∙ ap policyBy (policy i);
     row = seen;
@@ -103,14 +103,14 @@ layout-parts v book l =
     let policiesStart : startsIn book .policies ≡ policiesAt form book = ap (λ (x : Starts). x .policies) s in
     let codeValues : valuesAt codes book (front form) ≡ v .codes = ap (λ (x : Contents). x .codes) (h .contents) in
     let rowValues : valuesAt (rowsOf form) book (rowsAt form book) ≡ v .rows = ap (λ (x : Contents). x .rows) (h .contents) in
-    let policyValues : valuesAt policies book (policiesAt form book) ≡ v .policies = ap (λ (x : Contents). x .policies) (h .contents) in
+    let policyValues : valuesAt (policiesOf form) book (policiesAt form book) ≡ v .policies = ap (λ (x : Contents). x .policies) (h .contents) in
     parts v book (length (v .codes)) (h .form)
     (rw codesStart (sym (entries-length codes _ code-codec book (front form + 1) (countAt book (front form))) ∙ ap length codeValues))
     (rw rowsStart (sym (entries-length (rowsOf form) _ (rowCodecOf form) book (rowsAt form book + 1) (countAt book (rowsAt form book))) ∙ ap length rowValues))
-    (rw policiesStart (sym (entries-length policies _ policy-codec book (policiesAt form book + 1) (countAt book (policiesAt form book))) ∙ ap length policyValues))
+    (rw policiesStart (sym (entries-length (policiesOf form) _ (policyCodecOf form) book (policiesAt form book + 1) (countAt book (policiesAt form book))) ∙ ap length policyValues))
     (λ i. rw codesStart (standing-value codes book (front form) i (h .sound .first .whole) ∙ ap (λ (x : List ℕ). getElem? x i) codeValues))
     (λ i. rw (h .form, rowsStart) (standing-value (rowsOf form) book (rowsAt form book) i (h .sound .second .whole) ∙ ap (λ (x : List Row). getElem? x i) rowValues))
-    (λ i. rw policiesStart (standing-value policies book (policiesAt form book) i (h .sound .third .whole) ∙ ap (λ (x : List Policy). getElem? x i) policyValues))
+    (λ i. rw (h .form, policiesStart) (standing-value (policiesOf form) book (policiesAt form book) i (h .sound .third .whole) ∙ ap (λ (x : List Policy). getElem? x i) policyValues))
     (l .admitted .sound)
 
 -- ---- a refused book has none
@@ -129,5 +129,5 @@ refused-parts book f at e =
     (rw policiesStart none-there)
     (λ i. rw codesStart (standing-none codes book (length book) i (omega arith)))
     (λ i. rw rowsStart (standing-none (rowsOf (formOf book)) book (length book) i (omega arith)))
-    (λ i. rw policiesStart (standing-none policies book (length book) i (omega arith)))
+    (λ i. rw policiesStart (standing-none (policiesOf (formOf book)) book (length book) i (omega arith)))
     tt

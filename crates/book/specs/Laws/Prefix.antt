@@ -1,4 +1,4 @@
--- The reply to any byte string is the reply to its first 1,061 bytes: of a longer one nothing matters but those and that it is longer. Assumes
+-- The reply to any byte string is the reply to its first 1,093 bytes: of a longer one nothing matters but those and that it is longer. Assumes
 -- nothing.
 use mathlib.Core.Path.{_≡_, refl, sym, ap, ap₂, _∙_}
 use mathlib.Core.Bool.{Bool, true, false}
@@ -14,9 +14,9 @@ use lib.Seq.{getD-take}
 use borrow.Author.Tests.{lt-ltb, le-ltb, ltb-false}
 use Rattle.roster.specs.Limits.{rowLimit}
 use Rattle.book.specs.Layout.{permissionLimit, policyLimit}
-use Rattle.book.specs.Reading.{Kind, number, fieldsAt, total, cutPlace, codes, rowsOf, policies, faultIf, width, entryAt, prior, countLook, entryLook, inTurn, countAt, sectionLooks, past, formOf, front, listedIn, endLook, firstFault, readBy, readOf}
+use Rattle.book.specs.Reading.{Kind, number, fieldsAt, total, cutPlace, codes, rowsOf, policiesOf, faultIf, width, entryAt, prior, countLook, entryLook, inTurn, countAt, sectionLooks, past, formOf, front, listedIn, endLook, firstFault, readBy, readOf}
 use Rattle.book.specs.declared.Form.{Form}
-use Rattle.book.specs.declared.Form.the-variants.{Old, Persons}
+use Rattle.book.specs.declared.Form.the-variants.{Old, Persons, Editions}
 use Rattle.book.specs.Laws.First.{not-faulty, first-append}
 use Rattle.roster.specs.Laws.Rulings.{inside}
 use Rattle.book.specs.declared.Fault.{Fault}
@@ -141,12 +141,12 @@ module _ (n : ℕ) (a b : List ℕ) (same : Agree n a b) where
 few-codes : (c : ℕ) → codes .outOfRange c ≡ false → c ≤ permissionLimit
 few-codes c e = inside permissionLimit c e .1
 
-few-policies : (c : ℕ) → policies .outOfRange c ≡ false → c ≤ policyLimit
-few-policies c e = ltb-false policyLimit c e
-
 module _ (form : Form) where
   few-rows : (c : ℕ) → rowsOf form .outOfRange c ≡ false → c ≤ rowLimit
   few-rows c e = ltb-false rowLimit c e
+
+  few-policies : (c : ℕ) → policiesOf form .outOfRange c ≡ false → c ≤ policyLimit
+  few-policies c e = ltb-false policyLimit c e
 
   pub near-front : front form ≤ 1
   near-front = go form
@@ -154,6 +154,7 @@ module _ (form : Form) where
       go : (f : Form) → front f ≤ 1
       go Old = omega arith
       go Persons = omega arith
+      go Editions = omega arith
 
   -- 64 rows of either width
   pub near-row : (c : ℕ) → c ≤ rowLimit → width (rowsOf form) * c ≤ 768
@@ -162,8 +163,18 @@ module _ (form : Form) where
       go : (f : Form) → width (rowsOf f) * c ≤ 768
       go Old = omega arith
       go Persons = omega arith
+      go Editions = omega arith
 
-module _ (a b : List ℕ) (same : Agree 1061 a b) (form : Form) where
+  -- and 32 policies
+  pub near-policy : (c : ℕ) → c ≤ policyLimit → width (policiesOf form) * c ≤ 256
+  near-policy c h = go form
+    where
+      go : (f : Form) → width (policiesOf f) * c ≤ 256
+      go Old = omega arith
+      go Persons = omega arith
+      go Editions = omega arith
+
+module _ (a b : List ℕ) (same : Agree 1093 a b) (form : Form) where
   past-codes-agree : past codes a (front form) ≡ past codes b (front form)
   unfolding past
   past-codes-agree = rw (same .bytes (front form) (omega (arith, near-front form)))
@@ -182,38 +193,39 @@ module _ (a b : List ℕ) (same : Agree 1061 a b) (form : Form) where
 
   -- from the policies on
   policies-agree : (s : Starts) (listed at : ℕ) → at ≤ 835
-      → firstFault read.Refused (read.Good s) (sectionLooks policies a listed at ++ (endLook a (past policies a at) ∷ []))
-      ≡ firstFault read.Refused (read.Good s) (sectionLooks policies b listed at ++ (endLook b (past policies b at) ∷ []))
+      → firstFault read.Refused (read.Good s) (sectionLooks (policiesOf form) a listed at ++ (endLook a (past (policiesOf form) a at) ∷ []))
+      ≡ firstFault read.Refused (read.Good s) (sectionLooks (policiesOf form) b listed at ++ (endLook b (past (policiesOf form) b at) ∷ []))
   unfolding past firstFault
   policies-agree s listed at h =
-      section-agree 1061 a b same policies read.Refused (read.Good s) (read.Good s) _ _ listed at policyLimit few-policies (λ c l. omega arith) λ few.
-      rw (same .bytes at (omega arith), same .beyond (at + 1 + 7 * countAt b at) (omega arith))
+      section-agree 1093 a b same (policiesOf form) read.Refused (read.Good s) (read.Good s) _ _ listed at policyLimit (few-policies form)
+      (λ c l. omega (arith, near-policy form c l)) λ few.
+      rw (same .bytes at (omega arith), same .beyond (at + 1 + width (policiesOf form) * countAt b at) (omega (arith, near-policy form (countAt b at) few)))
 
   -- from the rows on
   rows-agree : (listed at : ℕ) → at ≤ 66
       → firstFault read.Refused (read.Good (record { permissions = front form; rows = at; policies = past (rowsOf form) a at }))
-      (sectionLooks (rowsOf form) a listed at ++ (sectionLooks policies a listed (past (rowsOf form) a at) ++ (endLook a (past policies a (past (rowsOf form) a at)) ∷ [])))
+      (sectionLooks (rowsOf form) a listed at ++ (sectionLooks (policiesOf form) a listed (past (rowsOf form) a at) ++ (endLook a (past (policiesOf form) a (past (rowsOf form) a at)) ∷ [])))
       ≡ firstFault read.Refused (read.Good (record { permissions = front form; rows = at; policies = past (rowsOf form) b at }))
-      (sectionLooks (rowsOf form) b listed at ++ (sectionLooks policies b listed (past (rowsOf form) b at) ++ (endLook b (past policies b (past (rowsOf form) b at)) ∷ [])))
+      (sectionLooks (rowsOf form) b listed at ++ (sectionLooks (policiesOf form) b listed (past (rowsOf form) b at) ++ (endLook b (past (policiesOf form) b (past (rowsOf form) b at)) ∷ [])))
   rows-agree listed at h =
-      section-agree 1061 a b same (rowsOf form) read.Refused _ _ _ _ listed at rowLimit (few-rows form) (λ c l. omega (arith, near-row form c l)) λ few.
+      section-agree 1093 a b same (rowsOf form) read.Refused _ _ _ _ listed at rowLimit (few-rows form) (λ c l. omega (arith, near-row form c l)) λ few.
       rw (past-rows-agree at h) (policies-agree _ listed (past (rowsOf form) b at) (near-policies at h few))
 
   by-form-agree : readBy form a ≡ readBy form b
   by-form-agree =
-      section-agree 1061 a b same codes read.Refused _ _ _ _ 0 (front form) permissionLimit few-codes (λ c l. omega (arith, near-front form)) λ few.
+      section-agree 1093 a b same codes read.Refused _ _ _ _ 0 (front form) permissionLimit few-codes (λ c l. omega (arith, near-front form)) λ few.
       rw (past-codes-agree, same .bytes (front form) (omega (arith, near-front form))) (rows-agree (listedIn form b) (past codes b (front form)) (near-rows few))
 
 -- the first byte tells the form
-form-agree : (a b : List ℕ) → Agree 1061 a b → formOf a ≡ formOf b
+form-agree : (a b : List ℕ) → Agree 1093 a b → formOf a ≡ formOf b
 unfolding formOf
 form-agree a b same = rw (same .bytes 0 (omega arith))
 
--- what is the same below 1061 has the same reply
-pub book-agree : (a b : List ℕ) → Agree 1061 a b → readOf a ≡ readOf b
+-- what is the same below 1093 has the same reply
+pub book-agree : (a b : List ℕ) → Agree 1093 a b → readOf a ≡ readOf b
 unfolding readOf
 book-agree a b same = ap (λ (f : Form). readBy f a) (form-agree a b same) ∙ by-form-agree a b same (formOf b)
 
--- the reply to a byte string is that to its first 1061 bytes
-pub prefix-reply : (book : List ℕ) → readOf book ≡ readOf (take 1061 book)
-prefix-reply book = book-agree book (take 1061 book) (agree-take 1061 book)
+-- the reply to a byte string is that to its first 1093 bytes
+pub prefix-reply : (book : List ℕ) → readOf book ≡ readOf (take 1093 book)
+prefix-reply book = book-agree book (take 1093 book) (agree-take 1093 book)

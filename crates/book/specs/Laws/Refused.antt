@@ -1,4 +1,4 @@
--- A refused book: its number is one of 2 to 5 or of 11 to 19, and its place is at most the book's length. Assumes nothing.
+-- A refused book: its number is one of 2 to 5 or of 11 to 19, or 25, and its place is at most the book's length. Assumes nothing.
 use mathlib.Core.Path.{_≡_, refl, subst}
 use mathlib.Core.Logic.{inl, inr}
 use mathlib.Core.Bool.{Bool, true, false}
@@ -9,21 +9,21 @@ use native.Mathlib.Omega.{arith}
 use lib.Dec.{eqb, ltb}
 use lib.ListN.{length, getD}
 use borrow.Author.Tests.{ltb-false, eqb-true}
-use Rattle.roster.specs.Limits.{awayLimit, crewLimit, sizeLimit}
+use Rattle.roster.specs.Limits.{awayLimit, crewLimit, sizeLimit, editionLimit}
 use Rattle.roster.specs.Refusals.{refusedIf, outside, policyRuling, ownRuling, madeBy, made}
 use Rattle.roster.specs.declared.Policy.{Policy}
-use Rattle.roster.specs.declared.Refusal.the-variants.{Task, Away, Crews, Size}
+use Rattle.roster.specs.declared.Refusal.the-variants.{Task, Away, Crews, Size, Edition}
 use Rattle.roster.specs.declared.Ruling.{Ruling}
 use Rattle.roster.specs.declared.Ruling.the-variants.{Admitted}
 use Rattle.book.specs.Layout.{Each, hasPersons}
 use Rattle.book.specs.Faults.{faultNumber, EntryNumber, BookNumber}
-use Rattle.book.specs.Reading.{Kind, total, fieldPlace, cutPlace, amissIf, faultIf, placed, notAbove, pastListed, staffOf, rowAmiss, byMade, codes, rowsOf, policies, width, entryAt, prior, countLook, entryLook, inTurn, countAt, sectionLooks, past, formBy, formOf, front, listedIn, endLook, looksFromPolicies, looksFromRows, looks, readOf}
+use Rattle.book.specs.Reading.{Kind, total, fieldPlace, cutPlace, amissIf, faultIf, placed, notAbove, pastListed, staffOf, rowAmiss, byMade, codes, rowsOf, policiesOf, width, entryAt, prior, countLook, entryLook, inTurn, countAt, sectionLooks, past, formBy, formOf, front, listedIn, endLook, looksFromPolicies, looksFromRows, looks, readOf}
 use Rattle.book.specs.Promises.{AllSound}
 use Rattle.book.specs.Laws.First.{not-faulty}
 use Rattle.book.specs.Laws.Places.{counted}
-use Rattle.book.specs.Laws.Books.{rowsAt, policiesAt, rowCodecOf, refused-first-fault}
+use Rattle.book.specs.Laws.Books.{rowsAt, policiesAt, rowCodecOf, policyCodecOf, refused-first-fault}
 use Rattle.book.specs.Laws.Sections.{section-sound}
-use Rattle.book.specs.Laws.Values.{code-codec, policy-codec}
+use Rattle.book.specs.Laws.Values.{code-codec}
 use Rattle.book.specs.declared.Fault.{Fault}
 use Rattle.book.specs.declared.Fault.the-variants as fault
 use Rattle.book.specs.declared.Amiss.{Amiss}
@@ -58,38 +58,43 @@ tells-if false f at rest n t = t
 -- what is told of an entry is told of a book
 of-book : (n : ℕ) → EntryNumber n → BookNumber n
 of-book n (inl l) = inl l
-of-book n (inr l) = inr (omega (arith, l .0), omega (arith, l .1))
+of-book n (inr (inl l)) = inr (inl (omega (arith, l .0), omega (arith, l .1)))
+of-book n (inr (inr e)) = inr (inr e)
 
 told-of-book : (ws : List ℕ) (at : ℕ) (x : Amiss) → Told EntryNumber x → Tells (placed ws at x)
 told-of-book ws at amiss.Nothing t = tt
 told-of-book ws at (amiss.Field f k) t = of-book (faultNumber f) t
 
--- of a policy by itself 2, 3, 4 or 5 is told: there are no rows to be too many, and no absence is named
-told-ruling : (P s d t : ℕ) (r : Ruling) (p : Policy) → policyRuling 0 P s d t ≡ r → Told EntryNumber (byMade (madeBy r p))
+-- of a policy by itself 2, 3, 4, 5 or 25 is told: there are no rows to be too many, and no absence is named
+told-ruling : (P s d t ed : ℕ) (r : Ruling) (p : Policy) → policyRuling 0 P s d t ed ≡ r → Told EntryNumber (byMade (madeBy r p))
 unfolding policyRuling
-told-ruling P s d t r p e = subst (λ (x : Ruling). Told EntryNumber (byMade (madeBy x p))) e (go (eqb P 0) (ltb awayLimit s) (outside crewLimit d) (outside sizeLimit t))
+told-ruling P s d t ed r p e =
+    subst (λ (x : Ruling). Told EntryNumber (byMade (madeBy x p))) e
+    (go (eqb P 0) (ltb awayLimit s) (outside crewLimit d) (outside sizeLimit t) (outside editionLimit ed))
   where
-    go : (a b c f : Bool) → Told EntryNumber (byMade (madeBy (refusedIf a Task (refusedIf b Away (refusedIf c Crews (refusedIf f Size Admitted)))) p))
-    go true b c f = inl (omega arith, omega arith)
-    go false true c f = inl (omega arith, omega arith)
-    go false false true f = inl (omega arith, omega arith)
-    go false false false true = inl (omega arith, omega arith)
-    go false false false false = tt
+    go : (a b c f g : Bool)
+        → Told EntryNumber (byMade (madeBy (refusedIf a Task (refusedIf b Away (refusedIf c Crews (refusedIf f Size (refusedIf g Edition Admitted))))) p))
+    go true b c f g = inl (omega arith, omega arith)
+    go false true c f g = inl (omega arith, omega arith)
+    go false false true f g = inl (omega arith, omega arith)
+    go false false false true g = inl (omega arith, omega arith)
+    go false false false false true = inr (inr refl)
+    go false false false false false = tt
 
 pub told-code : (listed : ℕ) (before : Option ℕ) (code : ℕ) → Told EntryNumber (codes .faults listed before code)
-told-code listed before code = told-if EntryNumber (notAbove before code) fault.Code 0 amiss.Nothing (inr (omega arith, omega arith)) tt
+told-code listed before code = told-if EntryNumber (notAbove before code) fault.Code 0 amiss.Nothing (inr (inl (omega arith, omega arith))) tt
 
 told-look : (persons low beyond : Bool) → Told EntryNumber (rowAmiss persons low beyond)
 told-look persons low beyond =
-    told-if EntryNumber low fault.Staff 0 _ (inr (omega arith, omega arith))
-    (told-if EntryNumber beyond fault.Holdings _ amiss.Nothing (inr (omega arith, omega arith)) tt)
+    told-if EntryNumber low fault.Staff 0 _ (inr (inl (omega arith, omega arith)))
+    (told-if EntryNumber beyond fault.Holdings _ amiss.Nothing (inr (inl (omega arith, omega arith))) tt)
 
 pub told-row : (form : Form) (listed : ℕ) (before : Option Row) (row : Row) → Told EntryNumber (rowsOf form .faults listed before row)
 told-row form listed before row = told-look (hasPersons form) (notAbove (staffOf before) (row .staff)) (pastListed listed (row .holdings))
 
-pub told-policy : (listed : ℕ) (before : Option Policy) (p : Policy) → Told EntryNumber (policies .faults listed before p)
-told-policy listed before p =
-    told-if EntryNumber (pastListed listed (p .task)) fault.Task 0 (byMade (made p)) (inr (omega arith, omega arith)) (told-ruling _ _ _ _ (ownRuling p) p refl)
+pub told-policy : (form : Form) (listed : ℕ) (before : Option Policy) (p : Policy) → Told EntryNumber (policiesOf form .faults listed before p)
+told-policy form listed before p =
+    told-if EntryNumber (pastListed listed (p .task)) fault.Task 0 (byMade (made p)) (inr (inl (omega arith, omega arith))) (told-ruling _ _ _ _ _ (ownRuling p) p refl)
 
 abbrev AllTold : List Look → Type 0
 AllTold = Each Tells
@@ -112,7 +117,7 @@ module _ {A : Type 0} (kind : Kind A) (count : EntryNumber (faultNumber (kind .c
       let last = prior (entryAt kind book) before in
       let here = kind .faults listed last (entryAt kind book at) in
       tells-if (ltb (length book) (at + width kind)) fault.Short (cutPlace (kind .widths) (length book) at) (placed (kind .widths) at here)
-      (inr (omega arith, omega arith)) (told-of-book (kind .widths) at here (entry listed last (entryAt kind book at)))
+      (inr (inl (omega arith, omega arith))) (told-of-book (kind .widths) at here (entry listed last (entryAt kind book at)))
 
   in-turn-told : (before : Before) (at n : ℕ) → AllTold (inTurn (entryLook kind book listed) (width kind) before at n)
   unfolding Each inTurn
@@ -123,7 +128,7 @@ module _ {A : Type 0} (kind : Kind A) (count : EntryNumber (faultNumber (kind .c
   unfolding Each sectionLooks countLook
   section-told at =
       let range = tells-if (kind .outOfRange (countAt book at)) (kind .countFault) at Sound (of-book (faultNumber (kind .countFault)) count) tt in
-      (tells-if (ltb (length book) (at + 1)) fault.Short at _ (inr (omega arith, omega arith)) range, in-turn-told Nothing (at + 1) (countAt book at))
+      (tells-if (ltb (length book) (at + 1)) fault.Short at _ (inr (inl (omega arith, omega arith))) range, in-turn-told Nothing (at + 1) (countAt book at))
 
 looks-told : (book : List ℕ) → AllTold (looks book)
 unfolding Each
@@ -132,15 +137,15 @@ looks-told book =
     let n = listedIn form book in
     let second = rowsAt form book in
     let third = policiesAt form book in
-    let end = past policies book third in
-    all-append (sectionLooks codes book 0 (front form)) (looksFromRows form book second) (section-told codes (inr (omega arith, omega arith)) told-code book 0 (front form))
+    let end = past (policiesOf form) book third in
+    all-append (sectionLooks codes book 0 (front form)) (looksFromRows form book second) (section-told codes (inr (inl (omega arith, omega arith))) told-code book 0 (front form))
     (all-append (sectionLooks (rowsOf form) book n second) (looksFromPolicies form book third)
-    (section-told (rowsOf form) (inr (omega arith, omega arith)) (told-row form) book n second)
-    (all-append (sectionLooks policies book n third) (endLook book end ∷ [])
-    (section-told policies (inr (omega arith, omega arith)) told-policy book n third)
-    (tells-if (ltb end (length book)) fault.Excess end Sound (inr (omega arith, omega arith)) tt, tt)))
+    (section-told (rowsOf form) (inr (inl (omega arith, omega arith))) (told-row form) book n second)
+    (all-append (sectionLooks (policiesOf form) book n third) (endLook book end ∷ [])
+    (section-told (policiesOf form) (inr (inl (omega arith, omega arith))) (told-policy form) book n third)
+    (tells-if (ltb end (length book)) fault.Excess end Sound (inr (inl (omega arith, omega arith))) tt, tt)))
 
--- a refused book's number is one of 2 to 5 or of 11 to 19
+-- a refused book's number is one of 2 to 5 or of 11 to 19, or 25
 pub refused-number : (book : List ℕ) (f : Fault) (at : ℕ) → readOf book ≡ read.Refused f at → BookNumber (faultNumber f)
 refused-number book f at e =
     let h = refused-first-fault book f at .0 e in
@@ -210,10 +215,11 @@ module _ (book : List ℕ) where
         let near = near-if (ltb (length book) (at + 1)) fault.Short at _ h (λ e. near-if (kind .outOfRange (countAt book at)) (kind .countFault) at Sound h (λ o. tt)) in
         (near, λ e. in-turn-reached Nothing (at + 1) (countAt book at) (ltb-false _ _ (not-faulty _ _ _ _ e .0)))
 
-  -- a book that starts with 200 is not empty
-  front-reached : (b : Bool) → eqb (getD book 0 0) 200 ≡ b → front (formBy b) ≤ length book
-  front-reached false e = omega arith
-  front-reached true e = counted book 0 199 (omega (arith, eqb-true (getD book 0 0) 200 e))
+  -- a book that starts with 200 or 201 is not empty
+  front-reached : (b c : Bool) → eqb (getD book 0 0) 200 ≡ b → eqb (getD book 0 0) 201 ≡ c → front (formBy b c) ≤ length book
+  front-reached true c e f = counted book 0 199 (omega (arith, eqb-true (getD book 0 0) 200 e))
+  front-reached false true e f = counted book 0 200 (omega (arith, eqb-true (getD book 0 0) 201 f))
+  front-reached false false e f = omega arith
 
   looks-reached : Reached (looks book)
   unfolding Reached formOf
@@ -222,11 +228,11 @@ module _ (book : List ℕ) where
       let n = listedIn form book in
       let second = rowsAt form book in
       let third = policiesAt form book in
-      let end = past policies book third in
-      reached-append (sectionLooks codes book 0 (front form)) (looksFromRows form book second) (section-reached codes 0 (front form) (front-reached (eqb (getD book 0 0) 200) refl)) (λ a.
+      let end = past (policiesOf form) book third in
+      reached-append (sectionLooks codes book 0 (front form)) (looksFromRows form book second) (section-reached codes 0 (front form) (front-reached (eqb (getD book 0 0) 200) (eqb (getD book 0 0) 201) refl refl)) (λ a.
       reached-append (sectionLooks (rowsOf form) book n second) (looksFromPolicies form book third) (section-reached (rowsOf form) n second (section-sound codes _ code-codec book 0 (front form) a .whole)) (λ b.
-      reached-append (sectionLooks policies book n third) (endLook book end ∷ []) (section-reached policies n third (section-sound (rowsOf form) _ (rowCodecOf form) book n second b .whole)) (λ c.
-      (near-if (ltb end (length book)) fault.Excess end Sound (section-sound policies _ policy-codec book n third c .whole) (λ o. tt), λ e. tt))))
+      reached-append (sectionLooks (policiesOf form) book n third) (endLook book end ∷ []) (section-reached (policiesOf form) n third (section-sound (rowsOf form) _ (rowCodecOf form) book n second b .whole)) (λ c.
+      (near-if (ltb end (length book)) fault.Excess end Sound (section-sound (policiesOf form) _ (policyCodecOf form) book n third c .whole) (λ o. tt), λ e. tt))))
 
 -- a refused book's place is at most the book's length
 pub refused-place : (book : List ℕ) (f : Fault) (at : ℕ) → readOf book ≡ read.Refused f at → at ≤ length book

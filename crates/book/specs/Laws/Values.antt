@@ -14,7 +14,7 @@ use Rattle.roster.specs.Laws.Rulings.{policy-within}
 use Rattle.roster.specs.declared.Policy.{Policy}
 use Rattle.roster.specs.declared.Ruling.{Ruling}
 use Rattle.roster.specs.declared.Ruling.the-variants as ruling
-use Rattle.book.specs.Layout.{codeFields, rowFields, policyFields, permissionLimit, Own, Each, Below, Ascends, PolicyFits}
+use Rattle.book.specs.Layout.{codeFields, rowFields, editionWidths, editionFields, policyFields, permissionLimit, Own, OwnEdition, Each, Below, Ascends, PolicyFits}
 use Rattle.book.specs.Reading.{Kind, fieldsAt, pastListed, rowAmiss, codes, rows, policies, byMade}
 use Rattle.book.specs.Laws.Codec.{Fit}
 use Rattle.book.specs.Laws.First.{not-amiss, none-amiss}
@@ -37,9 +37,13 @@ unfolding fieldsAt
 row-codec false = record { own = Own false; back = old-back; read = λ book at. refl; forth = λ book at. refl }
 row-codec true = record { own = Own true; back = λ x o. refl; read = λ book at. tt; forth = λ book at. refl }
 
-unfoldable pub policy-codec : Codec policies policyFields
+first-back : (p : Policy) → OwnEdition false p → policies false .value (policyFields false p) ≡ p
+first-back p o = rw o
+
+pub policy-codec : (editions : Bool) → Codec (policies editions) (policyFields editions)
 unfolding fieldsAt
-policy-codec = record { own = λ x. Unit {0}; back = λ x o. refl; read = λ book at. tt; forth = λ book at. refl }
+policy-codec false = record { own = OwnEdition false; back = first-back; read = λ book at. refl; forth = λ book at. refl }
+policy-codec true = record { own = OwnEdition true; back = λ p o. refl; read = λ book at. tt; forth = λ book at. refl }
 
 -- ---- lists
 
@@ -142,25 +146,28 @@ admitted : (r : Ruling) (p : Policy) → byMade (madeBy r p) ≡ Nothing → r �
 admitted ruling.Admitted p e = refl
 admitted (ruling.Refused refusal) p e = cc
 
-policy-there : (listed : ℕ) (before : Option Policy) (p : Policy) → policies .faults listed before p ≡ Nothing → PolicyFits listed p
-policy-there listed before p e =
+policy-there : (editions : Bool) (listed : ℕ) (before : Option Policy) (p : Policy) → policies editions .faults listed before p ≡ Nothing → PolicyFits listed p
+policy-there editions listed before p e =
     let first = not-amiss _ _ _ _ e in
     record { task = leb-false (2 ^ listed) (p .task) (first .0); sound = admitted (ownRuling p) p (first .1) }
 
-policy-back : (listed : ℕ) (before : Option Policy) (p : Policy) → PolicyFits listed p → policies .faults listed before p ≡ Nothing
-policy-back listed before p f =
+policy-back : (editions : Bool) (listed : ℕ) (before : Option Policy) (p : Policy) → PolicyFits listed p → policies editions .faults listed before p ≡ Nothing
+policy-back editions listed before p f =
     none-amiss (pastListed listed (p .task)) fault.Task 0 _ (lt-leb (2 ^ listed) (p .task) (f .task))
     (ap (λ (r : Ruling). byMade (madeBy r p)) (f .sound))
 
-pub policies-sound : (listed : ℕ) (before : Option Policy) (l : List Policy) → Faultless policies policyFields policy-codec listed before l → Each (PolicyFits listed) l
-unfolding Faultless Each
-policies-sound listed before [] h = tt
-policies-sound listed before (p ∷ l) h = (policy-there listed before p (h .0), policies-sound listed (some p) l (h .1))
+module _ (editions : Bool) (listed : ℕ) where
+  pub policies-sound : (before : Option Policy) (l : List Policy) → Faultless (policies editions) (policyFields editions) (policy-codec editions) listed before l
+      → Each (PolicyFits listed) l
+  unfolding Faultless Each
+  policies-sound before [] h = tt
+  policies-sound before (p ∷ l) h = (policy-there editions listed before p (h .0), policies-sound (some p) l (h .1))
 
-pub sound-policies : (listed : ℕ) (before : Option Policy) (l : List Policy) → Each (PolicyFits listed) l → Faultless policies policyFields policy-codec listed before l
-unfolding Faultless Each
-sound-policies listed before [] h = tt
-sound-policies listed before (p ∷ l) h = (policy-back listed before p (h .0), sound-policies listed (some p) l (h .1))
+  pub sound-policies : (before : Option Policy) (l : List Policy) → Each (PolicyFits listed) l
+      → Faultless (policies editions) (policyFields editions) (policy-codec editions) listed before l
+  unfolding Faultless Each
+  sound-policies before [] h = tt
+  sound-policies before (p ∷ l) h = (policy-back editions listed before p (h .0), sound-policies (some p) l (h .1))
 
 -- ---- widths: admitted values fit their fields
 
@@ -198,10 +205,31 @@ unfolding Fit row-codec
 fits-row false row h = let o : row .person ≡ row .staff = h .1 in (h .0 .0, omega (arith, h .0 .0), o)
 fits-row true row h = (h .0 .0, h .0 .1 .0, tt)
 
-pub policy-fits : (listed : ℕ) → listed ≤ permissionLimit → (p : Policy) → PolicyFits listed p → Fits policies policyFields policy-codec p
-unfolding Fit policy-codec
-policy-fits listed few p f =
-    let w = policy-within _ _ _ _ _ (f .sound) in (
-      (lt-of-lt-of-le (f .task) (pow-mono few), (omega (arith, w .away), (omega (arith, w .few), (omega (arith, w .small), tt)))),
-      tt,
+pub edition-fits : (editions : Bool) (p : Policy) → p .edition < 256 → Fit (editionWidths editions) (editionFields editions p)
+unfolding Fit
+edition-fits false p h = tt
+edition-fits true p h = (h, tt)
+
+pub own-edition : (editions : Bool) (p : Policy) → OwnEdition editions p → policy-codec editions .own p
+unfolding policy-codec
+own-edition false p o = o
+own-edition true p o = o
+
+pub policy-fits : (editions : Bool) (listed : ℕ) → listed ≤ permissionLimit → (p : Policy) → PolicyFits listed p × OwnEdition editions p
+    → Fits (policies editions) (policyFields editions) (policy-codec editions) p
+unfolding Fit
+policy-fits editions listed few p (f, o) =
+    let w = policy-within _ _ _ _ _ _ (f .sound) in (
+      (lt-of-lt-of-le (f .task) (pow-mono few), (omega (arith, w .away), (omega (arith, w .few), (omega (arith, w .small), edition-fits editions p (omega (arith, w .edition .1)))))),
+      own-edition editions p o,
     )
+
+-- the policies of admitted values fit their fields
+pub each-policy-fits : (editions : Bool) (listed : ℕ) → listed ≤ permissionLimit → (l : List Policy) → Each (PolicyFits listed) l → Each (OwnEdition editions) l
+    → Each (Fits (policies editions) (policyFields editions) (policy-codec editions)) l
+each-policy-fits editions listed few l f o = each (policy-fits editions listed few) l (each-both (PolicyFits listed) (OwnEdition editions) l f o)
+
+pub fits-edition : (editions : Bool) (p : Policy) → Fits (policies editions) (policyFields editions) (policy-codec editions) p → OwnEdition editions p
+unfolding policy-codec
+fits-edition false p h = h .1
+fits-edition true p h = tt

@@ -5,13 +5,13 @@ use mathlib.Core.Path.{_≡_, refl, sym, ap, _∙_}
 use mathlib.Core.Logic.{⊎-elim, _≢_}
 use Prim.Native.Nat.{ℕ, _-_, _*_, _<_}
 use native.Mathlib.Omega.{arith}
-use lib.Bits.{bitAnd}
 use lib.Count.{ones, trailingZeros}
 use borrow.Author.Needs.{needs}
 use borrow.Fn.Kinds.{In}
 use borrow.Fn.PlainCycle.{Measures, is, falls, and}
 use Rattle.sets.specs.Arrays.{at}
 use Rattle.crews.specs.declared.Filling.{Filling}
+use Rattle.crews.specs.Filling.{poolOf}
 use Rattle.crews.specs.Inner.Placing.{eligibleOf}
 use Rattle.crews.specs.Laws.Search.{search-done}
 use Rattle.crews.specs.Laws.Steps as step
@@ -28,17 +28,17 @@ use Rattle.crews.proofs.Filling.eligible.Reads as eligible-reads
 use Rattle.crews.proofs.Filling.place.Reads as place-reads
 use Rattle.crews.proofs.Filling.settled.Reads as settled-reads
 use Rattle.crews.proofs.Filling.stuck.Reads as stuck-reads
-use Rattle.crews.proofs.Filling.wanted.Reads as wanted-reads
 use Rattle.crews.proofs.candidates.Reads as candidates-reads
+use Rattle.crews.proofs.missing.Reads as missing-reads
 use Rattle.sets.proofs.least.Reads as least-reads
 use Rattle.crews.proofs.+go_on+try_each.{statement}
 use Rattle.crews.proofs.+go_on+try_each.Tie.{close}
 
 abbrev μ-go-on : Measures 2 go-on-kinds.ps ℕ
-μ-go-on κs a = 2 * ones (a .1 .1 .1 .1 .1 .0 .free) - 1
+μ-go-on κs a = 2 * ones (a .1 .1 .1 .1 .1 .1 .0 .free) - 1
 
 abbrev μ-try-each : Measures 2 try-each-kinds.ps ℕ
-μ-try-each κs a = 2 * ones (a .1 .1 .1 .1 .1 .0 .free)
+μ-try-each κs a = 2 * ones (a .1 .1 .1 .1 .1 .1 .0 .free)
 
 abbrev go-on-at : ℕ → In 2 go-on-kinds.ps
 go-on-at t = and 2 go-on-kinds.ps (is 2 go-on-kinds.ps μ-go-on t) go-on.Pre
@@ -87,7 +87,7 @@ go-on-returns t c =
     let s = k .before .before .before in
     let a = s .args in
     c .without-crews .ensures
-    ∙ turn.stuck-here (at (a .holds .now)) (at (a .holders .now)) (a .task) (a .crews) (a .size) (a .before) (a .row) (a .spent) (a .allowance) (s .pre .1)
+    ∙ turn.stuck-here (at (a .holds .now)) (at (a .holders .now)) (a .task) (a .crews) (a .size) (a .least) (a .before) (a .row) (a .spent) (a .allowance) (s .pre .1)
     (k .before .place .ensures) (sym (k .stuck .ensures) ∙ c .before .if1 .taken)
 
 go-on-try-each-requires : (t : ℕ) → go-on-lts.Need-try-each-requires (below-go-on t) (go-on-at t) go-on.Post
@@ -98,10 +98,10 @@ go-on-try-each-requires t c κs =
     let eq = k .before .place .ensures in (
       omega (
         arith,
-        turn.free-falls (at (a .holds .now)) (at (a .holders .now)) (a .task) (a .crews) (a .size) (a .before) (a .row) (a .spent) (a .allowance) (s .pre .1) eq,
+        turn.free-falls (at (a .holds .now)) (at (a .holders .now)) (a .task) (a .crews) (a .size) (a .least) (a .before) (a .row) (a .spent) (a .allowance) (s .pre .1) eq,
         s .pre .0,
       ),
-      turn.next-ready (at (a .holds .now)) (at (a .holders .now)) (a .task) (a .crews) (a .size) (a .before) (a .row) (a .spent) (a .allowance) (s .pre .1) eq
+      turn.next-ready (at (a .holds .now)) (at (a .holders .now)) (a .task) (a .crews) (a .size) (a .least) (a .before) (a .row) (a .spent) (a .allowance) (s .pre .1) eq
           (sym (k .stuck .ensures) ∙ c .if1 .left),
     )
 
@@ -110,7 +110,7 @@ go-on-returns-2 t c =
     let k = c .before .before in
     let s = k .before .before .before in
     let a = s .args in
-    turn.went-on (at (a .holds .now)) (at (a .holders .now)) (a .task) (a .crews) (a .size) (a .before) (a .row) (a .spent) (a .allowance) (s .pre .1)
+    turn.went-on (at (a .holds .now)) (at (a .holders .now)) (a .task) (a .crews) (a .size) (a .least) (a .before) (a .row) (a .spent) (a .allowance) (s .pre .1)
     (k .before .place .ensures) (c .try-each .ensures)
 
 -- ---- each candidate in turn
@@ -121,8 +121,8 @@ below-try-each t = (
   settled-reads.Learnt,
   complete-reads.Asked,
   complete-reads.Learnt,
-  wanted-reads.Asked,
-  wanted-reads.Learnt,
+  missing-reads.Asked,
+  missing-reads.Learnt,
   candidates-reads.Asked,
   candidates-reads.Learnt,
   eligible-reads.Asked,
@@ -136,13 +136,13 @@ below-try-each t = (
 )
 
 abbrev try-each-Inv-loop : try-each-lts.InvT-loop
-try-each-Inv-loop holds holders task crews size spent allowance f rest₀ units₀ rest units =
+try-each-Inv-loop holds holders task crews size least spent allowance f rest₀ units₀ rest units =
     turn.Going
-    (record { holds = holds; holders = holders; task = task; crews = crews; size = size; state = f; spent = spent; allowance = allowance })
+    (record { holds = holds; holders = holders; task = task; crews = crews; size = size; least = least; state = f; spent = spent; allowance = allowance })
     rest units
 
 abbrev try-each-μ-loop : try-each-lts.MeasureT-loop
-try-each-μ-loop holds holders task crews size spent allowance f rest₀ units₀ rest units = ones rest
+try-each-μ-loop holds holders task crews size least spent allowance f rest₀ units₀ rest units = ones rest
 
 -- the ways through the code: after settling, at the head of the loop, and in a turn
 abbrev Settled : ℕ → Type 0
@@ -162,6 +162,7 @@ asked t s =
       task = s .before .args .task;
       crews = s .before .args .crews;
       size = s .before .args .size;
+      least = s .before .args .least;
       state = s .settled .result;
       spent = s .before .args .spent;
       allowance = s .before .args .allowance;
@@ -198,8 +199,8 @@ try-each-returns t c =
     ∙ step.says-complete (a .allowance) (a .spent) (a .state .crews) _ (search-done (turn.rule a) (a .state) _ (c .before .if1 .taken)) (s .before .pre .1 .within)
     ∙ told t s
 
-try-each-wanted-requires : (t : ℕ) → try-each-lts.Need-wanted-requires (below-try-each t) (try-each-at t) try-each.Post try-each-Inv-loop try-each-μ-loop
-try-each-wanted-requires t c κs = search needs
+try-each-missing-requires : (t : ℕ) → try-each-lts.Need-missing-requires (below-try-each t) (try-each-at t) try-each.Post try-each-Inv-loop try-each-μ-loop
+try-each-missing-requires t c κs = search needs
 
 try-each-candidates-requires : (t : ℕ) → try-each-lts.Need-candidates-requires (below-try-each t) (try-each-at t) try-each.Post try-each-Inv-loop try-each-μ-loop
 try-each-candidates-requires t c κs = search needs
@@ -214,7 +215,7 @@ try-each-loop-holds t c =
     turn.begun a (s .before .args .placed) (s .settled .ensures) (s .before .pre .1)
     (c .eligible .ensures
     ∙ ap (eligibleOf (a .state))
-    (c .before .candidates .ensures ∙ ap (λ (p : ℕ). bitAnd (at (a .holders) p) (a .state .free)) (c .before .before .wanted .ensures)))
+    (c .before .candidates .ensures ∙ ap (λ (m : ℕ). poolOf (at (a .holders)) m (a .state .free)) (c .before .before .missing .ensures)))
     (c .eligible .ok) (c .before .before .before .before .if1 .left)
 
 try-each-without-crews-requires : (t : ℕ) → try-each-lts.Need-without-crews-requires (below-try-each t) (try-each-at t) try-each.Post try-each-Inv-loop try-each-μ-loop
@@ -242,7 +243,7 @@ try-each-add-go-on t c = search needs
 try-each-go-on-requires : (t : ℕ) → try-each-lts.Need-go-on-requires (below-try-each t) (try-each-at t) try-each.Post try-each-Inv-loop try-each-μ-loop
 try-each-go-on-requires t c κs =
     let s = settled t (looping t c) in
-    let same = ap (λ (f : Filling). ones (f .free)) (s .settled .ensures) ∙ ap ones (step.closed-free (s .before .args .task) (s .before .args .placed)) in (
+    let same = ap (λ (f : Filling). ones (f .free)) (s .settled .ensures) ∙ ap ones (step.closed-free (s .before .args .task) (s .before .args .least) (s .before .args .placed)) in (
       omega (arith, turn.some-free (going t c) (c .least .ensures) (some t c), same, s .before .pre .0),
       turn.placing (going t c) (c .least .ensures) (some t c) (c .before .if2 .left),
     )
@@ -296,7 +297,7 @@ pub +go-on+try-each-spec : {M : Type 1} → statement M
     (try-each-settled-requires t)
     (try-each-complete-requires t)
     (try-each-returns t)
-    (try-each-wanted-requires t)
+    (try-each-missing-requires t)
     (try-each-candidates-requires t)
     (try-each-eligible-requires t)
     (try-each-loop-holds t)

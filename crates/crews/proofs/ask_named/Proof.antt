@@ -14,7 +14,8 @@ use Rattle.roster.specs.declared.Refusal.{Refusal}
 use Rattle.roster.specs.declared.Ruling.the-variants as ruling
 use Rattle.roster.specs.declared.Verdict.the-variants.{Refused}
 use Rattle.roster.specs.declared.Reply.{Reply}
-use Rattle.roster.specs.Refusals.{namedRuling}
+use Rattle.roster.specs.Meaning.{leastMembers}
+use Rattle.roster.specs.Refusals.{namedRuling, namedRulingOf}
 use Rattle.roster.specs.Replies.{noCrews, replyWith}
 use Rattle.roster.specs.Laws.Rulings.{named-within}
 use Rattle.crews.specs.Filling.{Outcome, orderly, holdsOf, holdersOf, present, filling}
@@ -28,26 +29,26 @@ use Rattle.crews.specs.Laws.Arrays.{lent-filling}
 use Rattle.crews.proofs.ask_named.Statement.{statement}
 use Rattle.crews.proofs.ask_named.Tie as tie
 
-module _ (table : Table) (P d t A allowance : ℕ) (wide : P < 2 ^ 32) (r : Reply) where
-  refused : (refusal : Refusal) → namedRuling (table .rows) P d t A ≡ ruling.Refused refusal
-      → r ≡ replyWith noCrews 0 0 allowance (Refused refusal) → NamedReply table P d t A allowance r
+module _ (table : Table) (P d t ed A allowance : ℕ) (wide : P < 2 ^ 32) (r : Reply) where
+  refused : (refusal : Refusal) → namedRuling (table .rows) P d t ed A ≡ ruling.Refused refusal
+      → r ≡ replyWith noCrews 0 0 allowance (Refused refusal) → NamedReply table P d t ed A allowance r
   refused refusal e h =
-      allowed-by table P d t A allowance wide r
+      allowed-by table P d t ed A allowance wide r
       (λ other o. let same : refusal ≡ other = cc in h ∙ ap (λ (x : Refusal). replyWith noCrews 0 0 allowance (Refused x)) same)
       (λ o l. let z : _≡_ {A = ℕ} 0 1 = cc in absurd (omega arith))
       (λ o l f. let z : _≡_ {A = ℕ} 0 1 = cc in absurd (omega arith))
       (λ o l f. let z : _≡_ {A = ℕ} 0 1 = cc in absurd (omega arith))
 
   abbrev outcome : Outcome
-  outcome = filling table P d t A
+  outcome = filling table P d t ed A
 
   abbrev told : Bool → ℕ → Reply
   told found units = replyWith (outcome .crews) 0 units units (verdictOf (endingOf found))
 
-  admitted : namedRuling (table .rows) P d t A ≡ ruling.Admitted → r ≡ repliedOf (filledOf allowance 0 outcome)
-      → NamedReply table P d t A allowance r
+  admitted : namedRuling (table .rows) P d t ed A ≡ ruling.Admitted → r ≡ repliedOf (filledOf allowance 0 outcome)
+      → NamedReply table P d t ed A allowance r
   admitted e h =
-      allowed-by table P d t A allowance wide r
+      allowed-by table P d t ed A allowance wide r
       (λ refusal o. let z : _≡_ {A = ℕ} 0 1 = cc in absurd (omega arith))
       (λ o l. h ∙ ap repliedOf (filled-over allowance 0 outcome (omega arith)))
       (λ o l f. by-found l f)
@@ -58,14 +59,15 @@ module _ (table : Table) (P d t A allowance : ℕ) (wide : P < 2 ^ 32) (r : Repl
           h ∙ ap repliedOf (filled-fits allowance 0 outcome (omega arith)) ∙ ap₂ told f (zero-add (outcome .need))
 
 -- the search over what the calls handed back is the filling of the table
-same-filling : (table : Table) (P d t A : ℕ) → table .rows ≤ 64 → P ≢ 0 → P < 2 ^ 32 → d ≤ 8
-    → (holds holders : List ℕ) (all : ℕ) → holds ≡ tabulate 64 (holdsOf table P) → holders ≡ tabulate 32 (holdersOf (at holds)) → all ≡ 2 ^ table .rows - 1
-    → foundFrom (orderly (at holds) (at holders) P d t) (minus 64 all A) ≡ filling table P d t A
-same-filling table P d t A hr hn hP hd holds holders all eh ek ea =
-    ap (λ (x : ℕ). foundFrom (orderly (at holds) (at holders) P d t) (minus 64 x A)) ea
-    ∙ ap (λ (k : List ℕ). foundFrom (orderly (at holds) (at k) P d t) (present table A)) ek
-    ∙ ap (λ (h : List ℕ). foundFrom (orderly (at h) (at (tabulate 32 (holdersOf (at h)))) P d t) (present table A)) eh
-    ∙ lent-filling table P d t A hr hn hP hd
+same-filling : (table : Table) (P d t ed A : ℕ) → table .rows ≤ 64 → P ≢ 0 → P < 2 ^ 32 → d ≤ 8
+    → (holds holders : List ℕ) (all least : ℕ) → holds ≡ tabulate 64 (holdsOf table P) → holders ≡ tabulate 32 (holdersOf (at holds)) → all ≡ 2 ^ table .rows - 1
+    → least ≡ leastMembers ed
+    → foundFrom (orderly (at holds) (at holders) P d t least) (minus 64 all A) ≡ filling table P d t ed A
+same-filling table P d t ed A hr hn hP hd holds holders all least eh ek ea el =
+    ap₂ (λ (x m : ℕ). foundFrom (orderly (at holds) (at holders) P d t m) (minus 64 x A)) ea el
+    ∙ ap (λ (k : List ℕ). foundFrom (orderly (at holds) (at k) P d t (leastMembers ed)) (present table A)) ek
+    ∙ ap (λ (h : List ℕ). foundFrom (orderly (at h) (at (tabulate 32 (holdersOf (at h)))) P d t (leastMembers ed)) (present table A)) eh
+    ∙ lent-filling table P d t ed A hr hn hP hd
 
 named-ruling-requires : tie.Need-named-ruling-requires
 named-ruling-requires c κs = search needs
@@ -85,6 +87,9 @@ holdings-within-requires c κs = search needs
 holders-of-requires : tie.Need-holders-of-requires
 holders-of-requires c κs = search needs
 
+least-members-requires : tie.Need-least-members-requires
+least-members-requires c κs = search needs
+
 below-requires : tie.Need-below-requires
 below-requires c κs = search needs
 
@@ -96,33 +101,39 @@ reply-of-requires c κs = search needs
 
 -- what was asked is what is ruled on
 ruled : (c : tie.After-named-ruling)
-    → namedRuling (c .before .args .table .rows) (c .before .args .task) (c .before .args .crews) (c .before .args .size) (c .before .args .absent)
+    → namedRulingOf (c .before .args .table .rows) (c .before .args .policy) (c .before .args .absent)
     ≡ c .named-ruling .result
 ruled c = sym (c .named-ruling .ensures)
+
+-- the task has 32 bits
+wide : (c : tie.Start) → c .args .policy .task < 2 ^ 32
+wide c = search needs
 
 returns : tie.Need-returns
 returns c =
     let p = c .before .before .before .before in
     let s = p .before .args in
     let given = c .before .before .refusal .given in
-    refused (s .table) (s .task) (s .crews) (s .size) (s .absent) (s .allowance) (p .before .fits .task .fits) _ (given .0 .0)
+    refused (s .table) (s .policy .task) (s .policy .crews) (s .policy .size) (s .policy .edition) (s .absent) (s .allowance) (wide (p .before)) _ (given .0 .0)
     (ruled p ∙ given .1) (c .refused .ensures)
 
 returns-2 : tie.Need-returns-2
 returns-2 c =
-    let p = c .before .before .before .before .before .before .before .before .before .before in
+    let p = c .before .before .before .before .before .before .before .before .before .before .before in
     let s = p .before .args in
-    let wide = p .before .fits .task .fits in
-    let ok = ruled p ∙ c .before .before .before .before .before .before .before .before .enum-told .given .1 in
-    let k = named-within (s .table .rows) (s .task) (s .crews) (s .size) (s .absent) ok .0 in
-    admitted (s .table) (s .task) (s .crews) (s .size) (s .absent) (s .allowance) wide (c .reply-of .result) ok
+    let fits = wide (p .before) in
+    let ok = ruled p ∙ c .before .before .before .before .before .before .before .before .before .enum-told .given .1 in
+    let k = named-within (s .table .rows) (s .policy .task) (s .policy .crews) (s .policy .size) (s .policy .edition) (s .absent) ok .0 in
+    let holds = c .before .before .before .before .before .before .before .before .holdings-within in
+    let holders = c .before .before .before .before .before .before .holders-of in
+    admitted (s .table) (s .policy .task) (s .policy .crews) (s .policy .size) (s .policy .edition) (s .absent) (s .allowance) fits (c .reply-of .result) ok
     (c .reply-of .ensures
     ∙ ap repliedOf
     (c .before .fill .ensures .0
     ∙ ap (filledOf (s .allowance) 0)
-    (same-filling (s .table) (s .task) (s .crews) (s .size) (s .absent) (k .rows) (k .task) wide (k .few) (c .before .before .before .before .before .before .before .holdings-within .result)
-    (c .before .before .before .before .before .holders-of .result) (c .before .before .below .result) (c .before .before .before .before .before .before .before .holdings-within .ensures) (c .before .before .before .before .before .holders-of .ensures .0)
-    (c .before .before .below .ensures ∙ below-within 64 (s .table .rows) (k .rows)))))
+    (same-filling (s .table) (s .policy .task) (s .policy .crews) (s .policy .size) (s .policy .edition) (s .absent) (k .rows) (k .task) fits (k .few) (holds .result)
+    (holders .result) (c .before .before .below .result) (c .before .before .before .least-members .result) (holds .ensures) (holders .ensures .0)
+    (c .before .before .below .ensures ∙ below-within 64 (s .table .rows) (k .rows)) (c .before .before .before .least-members .ensures))))
 
 pub ask-named-spec : {M : Type 1} → statement M
 ask-named-spec =
@@ -134,6 +145,7 @@ ask-named-spec =
     enum-told
     holdings-within-requires
     holders-of-requires
+    least-members-requires
     below-requires
     fill-requires
     reply-of-requires

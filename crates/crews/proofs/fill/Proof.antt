@@ -24,7 +24,7 @@ without-crews-requires c κs = search needs
 returns : tie.Need-returns
 returns c =
     let s = c .before .before .args in
-    let w = orderly (at (s .holds .now)) (at (s .holders .now)) (s .task) (s .crews) (s .size) in
+    let w = orderly (at (s .holds .now)) (at (s .holders .now)) (s .task) (s .crews) (s .size) (s .least) in
     (c .without-crews .ensures ∙ sym (filled-over (s .allowance) (s .spent) (foundFrom w (s .free)) (omega (arith, c .before .if1 .taken))), (refl, refl))
 
 without-crews-requires-2 : tie.Need-without-crews-requires-2
@@ -33,7 +33,7 @@ without-crews-requires-2 c κs = search needs
 returns-2 : tie.Need-returns-2
 returns-2 c =
     let s = c .before .before .before .args in
-    let w = orderly (at (s .holds .now)) (at (s .holders .now)) (s .task) (s .crews) (s .size) in (
+    let w = orderly (at (s .holds .now)) (at (s .holders .now)) (s .task) (s .crews) (s .size) (s .least) in (
       c .without-crews2 .ensures
           ∙ says-exhausted (s .allowance) (s .spent) (foundFrom w (s .free)) (found-idle w (s .free) (c .before .if2 .taken)) (omega (arith, c .before .before .if1 .left)),
       (refl, refl),
@@ -45,7 +45,7 @@ without-crews-requires-3 c κs = search needs
 returns-3 : tie.Need-returns-3
 returns-3 c =
     let s = c .before .before .before .before .args in
-    let w = orderly (at (s .holds .now)) (at (s .holders .now)) (s .task) (s .crews) (s .size) in (
+    let w = orderly (at (s .holds .now)) (at (s .holders .now)) (s .task) (s .crews) (s .size) (s .least) in (
       c .without-crews3 .ensures
           ∙ says-exhausted (s .allowance) (s .spent) (foundFrom w (s .free)) (found-many w (s .free) (c .before .before .if2 .left) (c .before .if3 .taken))
           (omega (arith, c .before .before .before .if1 .left)),
@@ -59,7 +59,7 @@ returns-4 : tie.Need-returns-4
 returns-4 c =
     let b = c .before .before .before in
     let s = b .before .before .before .args in
-    let w = orderly (at (s .holds .now)) (at (s .holders .now)) (s .task) (s .crews) (s .size) in
+    let w = orderly (at (s .holds .now)) (at (s .holders .now)) (s .task) (s .crews) (s .size) (s .least) in
     let out : s .size ≤ ones 0 = omega (arith, c .before .before .if4 .taken) in (
       c .without-crews4 .ensures
           ∙ says-exhausted (s .allowance) (s .spent) (foundFrom w (s .free))
@@ -75,7 +75,7 @@ try-each-requires : tie.Need-try-each-requires
 try-each-requires c κs =
     let b = c .before .before in
     let s = b .before .before .before .args in
-    let short = begun-short (s .task) (s .free) (b .before .if2 .left) in
+    let short = begun-short (s .task) (s .least) (s .free) (b .before .if2 .left) in
     let e = ap (λ (f : Filling). f .closed) short in
     let k = ap (λ (f : Filling). ones (f .crew)) short in
     rw (c .begin .ensures)
@@ -91,11 +91,11 @@ returns-5 : tie.Need-returns-5
 returns-5 c =
     let b = c .before .before .before in
     let s = b .before .before .before .args in
-    let w = orderly (at (s .holds .now)) (at (s .holders .now)) (s .task) (s .crews) (s .size) in
+    let w = orderly (at (s .holds .now)) (at (s .holders .now)) (s .task) (s .crews) (s .size) (s .least) in
     let some = b .before .if2 .left in (
       c .try-each .ensures
-          ∙ ap (λ (f : Filling). filledOf (s .allowance) (s .spent) (definition.search (ones (f .free)) w (closedWhere (s .task) f))) (c .before .begin .ensures)
-          ∙ ap (λ (f : Filling). filledOf (s .allowance) (s .spent) (definition.search (ones (s .free)) w f)) (begun-short (s .task) (s .free) some)
+          ∙ ap (λ (f : Filling). filledOf (s .allowance) (s .spent) (definition.search (ones (f .free)) w (closedWhere (s .task) (s .least) f))) (c .before .begin .ensures)
+          ∙ ap (λ (f : Filling). filledOf (s .allowance) (s .spent) (definition.search (ones (s .free)) w f)) (begun-short (s .task) (s .least) (s .free) some)
           ∙ ap (filledOf (s .allowance) (s .spent)) (sym (found-few w (s .free) some (b .if3 .left))),
       (refl, refl),
     )

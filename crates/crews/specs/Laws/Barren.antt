@@ -37,7 +37,7 @@ module _ (w : Work) (F : ℕ) where
     pub state : State w F f
     pub all : (u : ℕ) → Has F u → Has (f .free) u ⊎ ((j : ℕ) × Has (crew f j) u)
     pub fresh : f .crew ≡ 0 → f .held ≡ 0
-    pub lacking : missingOf (w .task) f ≢ 0
+    pub lacking : (missingOf (w .task) f ≢ 0) ⊎ (ones (f .crew) < w .least)
 
 module _ (w : Work) (F : ℕ) (r : Ready w F) where
   -- ---- what a placement leaves as it was
@@ -76,7 +76,7 @@ module _ (w : Work) (F : ℕ) (r : Ready w F) where
     }
 
     pub later-placed : Later f (placedOf w f row)
-    later-placed = placed-is w f row (Later f) (λ z. later-shut) (λ z. later-put)
+    later-placed = placed-is w f row (Later f) (λ z m. later-shut) (λ z. later-put)
 
     -- the row is in the crew that was being filled
     joined-put : Has (crew (putOf w f row) (f .closed)) row
@@ -86,7 +86,7 @@ module _ (w : Work) (F : ℕ) (r : Ready w F) where
     pub joined-placed : Has (crew (placedOf w f row) (f .closed)) row
     joined-placed =
         placed-is w f row (λ g. Has (crew g (f .closed)) row)
-        (λ z. ap (λ (x : ℕ). bit x row) (shut-at (f .closed)) ∙ joined-put)
+        (λ z m. ap (λ (x : ℕ). bit x row) (shut-at (f .closed)) ∙ joined-put)
         (λ z. joined-put)
 
     -- and not free
@@ -96,7 +96,7 @@ module _ (w : Work) (F : ℕ) (r : Ready w F) where
 
     pub gone-placed : bit (placedOf w f row .free) row ≡ 0
     unfolding closeOf
-    gone-placed = placed-is w f row (λ g. bit (g .free) row ≡ 0) (λ z. gone-put) (λ z. gone-put)
+    gone-placed = placed-is w f row (λ g. bit (g .free) row ≡ 0) (λ z m. gone-put) (λ z. gone-put)
 
     fewer-put : suc (ones (putOf w f row .free)) ≡ ones (f .free)
     unfolding placeOf
@@ -104,7 +104,7 @@ module _ (w : Work) (F : ℕ) (r : Ready w F) where
 
     pub fewer-placed : suc (ones (placedOf w f row .free)) ≡ ones (f .free)
     unfolding closeOf
-    fewer-placed = placed-is w f row (λ g. suc (ones (g .free)) ≡ ones (f .free)) (λ z. fewer-put) (λ z. fewer-put)
+    fewer-placed = placed-is w f row (λ g. suc (ones (g .free)) ≡ ones (f .free)) (λ z m. fewer-put) (λ z. fewer-put)
 
     other-put : (u : ℕ) → row ≢ u → Has (f .free) u → Has (putOf w f row .free) u
     unfolding placeOf
@@ -112,23 +112,23 @@ module _ (w : Work) (F : ℕ) (r : Ready w F) where
 
     other-placed : (u : ℕ) → row ≢ u → Has (f .free) u → Has (placedOf w f row .free) u
     unfolding closeOf
-    other-placed u n h = placed-is w f row (λ g. Has (g .free) u) (λ z. other-put u n h) (λ z. other-put u n h)
+    other-placed u n h = placed-is w f row (λ g. Has (g .free) u) (λ z m. other-put u n h) (λ z. other-put u n h)
 
-    -- a crew just begun holds nothing, and one that lacks nothing is closed
+    -- a crew just begun holds nothing, and one that lacks nothing and has members enough is closed
     fresh-put : putOf w f row .crew ≡ 0 → putOf w f row .held ≡ 0
     unfolding placeOf
     fresh-put e = absurd (omega (arith, bit-with-same (f .crew) row, ap (λ (x : ℕ). bit x row) e, bit-none row))
 
     fresh-placed : placedOf w f row .crew ≡ 0 → placedOf w f row .held ≡ 0
     unfolding closeOf
-    fresh-placed = placed-is w f row (λ g. g .crew ≡ 0 → g .held ≡ 0) (λ z e. refl) (λ z. fresh-put)
+    fresh-placed = placed-is w f row (λ g. g .crew ≡ 0 → g .held ≡ 0) (λ z m e. refl) (λ z. fresh-put)
 
-    lacking-placed : missingOf (w .task) (placedOf w f row) ≢ 0
+    lacking-placed : (missingOf (w .task) (placedOf w f row) ≢ 0) ⊎ (ones (placedOf w f row .crew) < w .least)
     unfolding closeOf
     lacking-placed =
-        placed-is w f row (λ g. missingOf (w .task) g ≢ 0)
-        (λ z e. r .some (sym (missing-all (w .task)) ∙ e))
-        (λ z. ⊎-elim (λ y. y) (λ y. absurd (true≢false (sym (r .plain .closes _) ∙ y))) z)
+        placed-is w f row (λ g. (missingOf (w .task) g ≢ 0) ⊎ (ones (g .crew) < w .least))
+        (λ z m. inl (λ e. r .some (sym (missing-all (w .task)) ∙ e)))
+        (λ z. z)
 
     all-placed : ((u : ℕ) → Has F u → Has (f .free) u ⊎ ((j : ℕ) × Has (crew f j) u))
         → (u : ℕ) → Has F u → Has (placedOf w f row .free) u ⊎ ((j : ℕ) × Has (crew (placedOf w f row) j) u)
@@ -153,7 +153,7 @@ module _ (w : Work) (F : ℕ) (r : Ready w F) where
     state = state-begin w F;
     all = λ u h. inl h;
     fresh = λ e. refl;
-    lacking = λ e. r .some (sym (missing-all (w .task)) ∙ e);
+    lacking = inl (λ e. r .some (sym (missing-all (w .task)) ∙ e));
   }
 
   -- ---- a list that has the crews closed so far is made of free rows
@@ -190,13 +190,18 @@ module _ (w : Work) (F : ℕ) (r : Ready w F) where
   pub wanted-first : (f : Filling) → Reach w F f → f .crew ≡ 0 → wantedOf (w .task) f ≡ lead w
   wanted-first f a empty = ap (trailingZeros 32) (ap (λ (x : ℕ). bitXor (w .task) (bitAnd (w .task) x)) (a .fresh empty) ∙ missing-all (w .task))
 
+  -- and lacks it
+  pub first-lacks : (f : Filling) → Reach w F f → f .crew ≡ 0 → missingOf (w .task) f ≢ 0
+  first-lacks f a empty e =
+      r .some (sym (ap (λ (x : ℕ). bitXor (w .task) (bitAnd (w .task) x)) (a .fresh empty) ∙ missing-all (w .task)) ∙ e)
+
   -- a row that holds it and is free is a candidate then
   pub first-candidate : (f : Filling) → Reach w F f → f .crew ≡ 0 → (c : ℕ) → Has (w .holders (lead w)) c → Has (f .free) c → Candidate w f c
   first-candidate f a empty c h q =
       let inF : Has F c = has-of-sub (f .free) F (a .state .free) c q in
       record {
         below = bit-below F rowLimit c (r .rows) inF;
-        holder = subst (λ (x : ℕ). Has (w .holders x) c) (sym (wanted-first f a empty)) h;
+        holder = λ lack. subst (λ (x : ℕ). Has (w .holders x) c) (sym (wanted-first f a empty)) h;
         free = q;
       }
 
@@ -237,6 +242,7 @@ module _ (w : Work) (F : ℕ) (r : Ready w F) where
           apart = λ i j u l m q p. x .state .apart i j u (from i u l q) (from j u m p);
           small = λ j l. omega (arith, ap ones (same j l), x .state .small j);
           whole = λ j l. subst (Held w) (same j l) (x .state .whole j (omega arith));
+          enough = λ j l. omega (arith, ap ones (same j l), x .state .enough j (omega arith));
         };
         kept = λ j u l q. sym (ap (λ (y : ℕ). bit y u) (same j l)) ∙ x .kept j u q;
       }

@@ -2,7 +2,7 @@
 -- part of T's, and what is left of T's crews is free. T's crew has a row that holds the lowest missing permission; that row is a
 -- candidate, and with it placed the search is on the way still. A crew that covers sooner than T's leaves rows over. Assumes nothing.
 use mathlib.Core.Path.{_≡_, sym, ap, _∙_}
-use mathlib.Core.Bool.{true, true≢false}
+use mathlib.Core.Bool.{true}
 use mathlib.Core.Logic.{_⊎_, inl, inr, ⊎-elim, _≢_}
 use Prim.Native.Nat.{ℕ, zero, suc, _^_, _≤_, _<_}
 use native.Mathlib.Decide.{ℕ-discrete}
@@ -12,7 +12,7 @@ use lib.Count.{ones}
 use lib.Dec.{eqb}
 use borrow.Author.Tests.{eqb-true, eqb-false}
 use Rattle.sets.specs.Sets.{bit, Has, Sub, with, bit-none, bit-below, digit, or-in, or-in-l, or-in-r, pow-in}
-use Rattle.sets.specs.Sets.{sub-of-has, sub-lt, has-of-sub, missing-all, ones-with, ones-sub, ones-drop, bit-drop-other, drop-sub, bit-with-same}
+use Rattle.sets.specs.Sets.{sub-of-has, sub-lt, has-of-sub, missing-all, ones-with, ones-sub, ones-drop, bit-drop-other, drop-sub, bit-with-same, fresh}
 use Rattle.sets.specs.Laws.Sums.{either}
 use Rattle.roster.specs.Limits.{rowLimit, crewLimit}
 use Rattle.crews.specs.declared.Filling.{Filling}
@@ -23,10 +23,9 @@ use Rattle.crews.specs.Laws.Sound.{Shape, Held, shape-put, shape-close, 
 pub same-or-not : (m n : ℕ) → (m ≡ n) ⊎ (m ≢ n)
 same-or-not m n = ⊎-elim (λ e. inl (eqb-true m n e)) (λ e. inr (eqb-false m n e)) (either (eqb m n))
 
--- any row may begin a crew, and a crew that covers closes
+-- any row may begin a crew
 pub record Plain (w : Work) : Type 0 where
   pub begins : (f : Filling) (u : ℕ) → w .begins f u ≡ true
-  pub closes : (f : Filling) → w .closes f ≡ true
 
 -- the work is one that is admitted, with F free at first: the holders of a permission have each free row that holds it
 pub record Ready (w : Work) (F : ℕ) : Type 0 where
@@ -43,6 +42,7 @@ pub record Solves (w : Work) (F : ℕ) (T : ℕ → ℕ) : Type 0 where
   pub apart : (i j u : ℕ) → i < w .crews → j < w .crews → Has (T i) u → Has (T j) u → i ≡ j
   pub small : (j : ℕ) → j < w .crews → ones (T j) ≤ w .size
   pub whole : (j : ℕ) → j < w .crews → Held w (T j)
+  pub enough : (j : ℕ) → j < w .crews → w .least ≤ ones (T j)
 
 module _ (w : Work) (F : ℕ) (T : ℕ → ℕ) (r : Ready w F) (t : Solves w F T) where
   -- the state is on the way to T, with n placements to go at most
@@ -52,7 +52,7 @@ module _ (w : Work) (F : ℕ) (T : ℕ → ℕ) (r : Ready w F) (t : Solves w F 
     pub sub : (u : ℕ) → Has (f .crew) u → Has (T (f .closed)) u
     pub left : (j u : ℕ) → f .closed ≤ j → j < w .crews → Has (T j) u → Has (f .free) u ⊎ ((j ≡ f .closed) × Has (f .crew) u)
     pub held : (u p : ℕ) → Has (f .crew) u → Has (w .holds u) p → Has (f .held) p
-    pub lacking : missingOf (w .task) f ≢ 0
+    pub lacking : (missingOf (w .task) f ≢ 0) ⊎ (ones (f .crew) < w .least)
     pub fuel : ones (f .free) ≤ n
 
   -- the next row: T's, and a candidate for a crew that is not full
@@ -61,6 +61,40 @@ module _ (w : Work) (F : ℕ) (T : ℕ → ℕ) (r : Ready w F) (t : Solves w F 
     mine : Has (T (f .closed)) row
     tried : Tried w f row
 
+  -- a row of T's crew that is not in the crew yet, and holds the permission that is wanted, where one is
+  record Wanted (f : Filling) : Type 0 where
+    row : ℕ
+    mine : Has (T (f .closed)) row
+    out : bit (f .crew) row ≡ 0
+    holds : missingOf (w .task) f ≢ 0 → Has (w .holds row) (wantedOf (w .task) f)
+
+  wanted : (f : Filling) (n : ℕ) → Part f n → f .closed ≢ w .crews → Wanted f
+  wanted f n a c = go (ℕ-discrete (missingOf (w .task) f) 0)
+    where
+      l : f .closed < w .crews
+      l = unfinished w f (a .shape) c
+
+      -- something is missing
+      short : missingOf (w .task) f ≢ 0 → Wanted f
+      short lack =
+          let lowest = wanted-missing (w .task) f (r .wide) lack in
+          let x = t .whole (f .closed) l (wantedOf (w .task) f) (lowest .0) in
+          record {
+            row = x .0;
+            mine = x .1;
+            -- what the crew has, it holds, and this is missing
+            out = ⊎-elim (λ z. z) (λ o. absurd (omega (arith, a .held (x .0) (wantedOf (w .task) f) o (x .2), lowest .1))) (digit (f .crew) (x .0));
+            holds = λ m. x .2;
+          }
+
+      -- nothing is, and T's crew has more members
+      go : Dec (missingOf (w .task) f ≡ 0) → Wanted f
+      go (no lack) = short lack
+      go (yes e) =
+          let few : ones (f .crew) < w .least = ⊎-elim (λ lack. absurd (lack e)) (λ m. m) (a .lacking) in
+          let x = fresh (f .crew) (T (f .closed)) (omega (arith, t .enough (f .closed) l)) in
+          record { row = x .0; mine = x .1; out = x .2; holds = λ lack. absurd (lack e) }
+
   next : (f : Filling) (n : ℕ) → Part f n → f .closed ≢ w .crews → Next f
   next f n a c =
       record {
@@ -68,10 +102,10 @@ module _ (w : Work) (F : ℕ) (T : ℕ → ℕ) (r : Ready w F) (t : Solves w F 
         mine = mine;
         tried = record {
           going = c;
-          room = omega (arith, ones-with (f .crew) row out, ones-sub (with (f .crew) row) (T (f .closed)) grown, t .small (f .closed) l);
+          room = omega (arith, ones-with (f .crew) row (x .out), ones-sub (with (f .crew) row) (T (f .closed)) grown, t .small (f .closed) l);
           candidate = record {
             below = bit-below (f .free) rowLimit row (sub-lt rowLimit (f .free) F (a .free) (r .rows)) free-row;
-            holder = r .holders (wantedOf (w .task) f) row (has-of-sub (f .free) F (a .free) row free-row) (x .2);
+            holder = λ lack. r .holders (wantedOf (w .task) f) row (has-of-sub (f .free) F (a .free) row free-row) (x .holds lack);
             free = free-row;
           };
         };
@@ -80,24 +114,17 @@ module _ (w : Work) (F : ℕ) (T : ℕ → ℕ) (r : Ready w F) (t : Solves w F 
       l : f .closed < w .crews
       l = unfinished w f (a .shape) c
 
-      wanted : Has (w .task) (wantedOf (w .task) f) × (bit (f .held) (wantedOf (w .task) f) ≡ 0)
-      wanted = wanted-missing (w .task) f (r .wide) (a .lacking)
-
-      x : (u : ℕ) × Has (T (f .closed)) u × Has (w .holds u) (wantedOf (w .task) f)
-      x = t .whole (f .closed) l (wantedOf (w .task) f) (wanted .0)
+      x : Wanted f
+      x = wanted f n a c
 
       row : ℕ
-      row = x .0
+      row = x .row
 
       mine : Has (T (f .closed)) row
-      mine = x .1
-
-      -- what the crew has, it holds, and this is missing
-      out : bit (f .crew) row ≡ 0
-      out = ⊎-elim (λ z. z) (λ o. absurd (omega (arith, a .held row (wantedOf (w .task) f) o (x .2), wanted .1))) (digit (f .crew) row)
+      mine = x .mine
 
       free-row : Has (f .free) row
-      free-row = ⊎-elim (λ h. h) (λ h. absurd (omega (arith, h .1, out))) (a .left (f .closed) row (omega arith) l mine)
+      free-row = ⊎-elim (λ h. h) (λ h. absurd (omega (arith, h .1, x .out))) (a .left (f .closed) row (omega arith) l mine)
 
       grown : Sub (with (f .crew) row) (T (f .closed))
       grown =
@@ -122,7 +149,7 @@ module _ (w : Work) (F : ℕ) (T : ℕ → ℕ) (r : Ready w F) (t : Solves w F 
     still u h e = bit-drop-other (f .free) row u e ∙ h
 
     -- the crew does not cover yet
-    kept : missingOf (w .task) (putOf w f row) ≢ 0 → Part (putOf w f row) n
+    kept : (missingOf (w .task) (putOf w f row) ≢ 0) ⊎ (ones (putOf w f row .crew) < w .least) → Part (putOf w f row) n
     unfolding placeOf
     kept lack =
         record {
@@ -166,7 +193,7 @@ module _ (w : Work) (F : ℕ) (T : ℕ → ℕ) (r : Ready w F) (t : Solves w F 
               (λ h. absurd (let z = h .0 in omega arith))
               (a .left j u (omega arith) m q));
           held = λ u p q. absurd (omega (arith, bit-none u));
-          lacking = λ e. r .some (sym (missing-all (w .task)) ∙ e);
+          lacking = inl (λ e. r .some (sym (missing-all (w .task)) ∙ e));
           fuel = fewer;
         }
 
@@ -186,8 +213,8 @@ module _ (w : Work) (F : ℕ) (T : ℕ → ℕ) (r : Ready w F) (t : Solves w F 
       ap (λ (o : Outcome). o .found) (search-open w f n c (x .tried .room))
       ∙ try-finds (λ g. search n w g) w f row (candidates w f) (among w f row (x .tried .candidate) (r .plain .begins f row))
       (placed-is w f row (λ g. search n w g .found ≡ true)
-      (λ z. finds n (closeOf (putOf w f row)) (shut f n a row (x .mine) (x .tried)))
-      (λ z. finds n (putOf w f row) (kept f n a row (x .mine) (x .tried) (⊎-elim (λ y. y) (λ y. absurd (true≢false (sym (r .plain .closes _) ∙ y))) z)))))
+      (λ z m. finds n (closeOf (putOf w f row)) (shut f n a row (x .mine) (x .tried)))
+      (λ z. finds n (putOf w f row) (kept f n a row (x .mine) (x .tried) z))))
       (same-or-not (f .closed) (w .crews))
 
   -- each row of T's crew that is a candidate leads to a list
@@ -195,8 +222,8 @@ module _ (w : Work) (F : ℕ) (T : ℕ → ℕ) (r : Ready w F) (t : Solves w F 
       → search n w (placedOf w f row) .found ≡ true
   goes n f a row mine k =
       placed-is w f row (λ g. search n w g .found ≡ true)
-      (λ z. finds n (closeOf (putOf w f row)) (shut f n a row mine k))
-      (λ z. finds n (putOf w f row) (kept f n a row mine k (⊎-elim (λ y. y) (λ y. absurd (true≢false (sym (r .plain .closes _) ∙ y))) z)))
+      (λ z m. finds n (closeOf (putOf w f row)) (shut f n a row mine k))
+      (λ z. finds n (putOf w f row) (kept f n a row mine k z))
 
   -- Where T solves it, the search finds a list.
   pub complete : search (ones F) w (begin F) .found ≡ true
@@ -208,6 +235,6 @@ module _ (w : Work) (F : ℕ) (T : ℕ → ℕ) (r : Ready w F) (t : Solves w F 
         sub = λ u q. absurd (omega (arith, bit-none u));
         left = λ j u l m q. inl (t .free j u m q);
         held = λ u p q. absurd (omega (arith, bit-none u));
-        lacking = λ e. r .some (sym (missing-all (w .task)) ∙ e);
+        lacking = inl (λ e. r .some (sym (missing-all (w .task)) ∙ e));
         fuel = omega arith;
       })

@@ -27,23 +27,23 @@ use Rattle.crews.specs.Laws.Before.{same-as-before}
 use Rattle.crews.specs.Laws.Exact.{list-found}
 use Rattle.crews.specs.Laws.Named.{admitted-fair, named-crews}
 
-module _ {table : Table} {P d : ℕ} (fair : Fair table P d) (t A : ℕ) where
+module _ {table : Table} {P d : ℕ} (fair : Fair table P d) (t ed A : ℕ) where
   abbrev work : Work
-  work = workBefore table P d t
+  work = workBefore table P d t ed
 
   ready : Ready work (present table A)
-  ready = work-ready table P d fair t A
+  ready = work-ready table P d fair t ed A
 
   -- a present row is a holder of what it holds within P
   holder-holds : (u : ℕ) → Has (present table A) u → (p : ℕ) → bit (work .holders p) u ≡ bit (held table P u) p
   holder-holds u q p =
       let l = present-in table A u (fair .rows) q .0 in
-      let agrees = work-agrees table P d t (fair .rows) in
+      let agrees = work-agrees table P d t ed (fair .rows) in
       agrees .holders p u l ∙ ap (λ (m : ℕ). bit m p) (agrees .holds u l)
 
-  module _ (e : fillingBefore table P d t A .found ≡ true) where
+  module _ (e : fillingBefore table P d t ed A .found ≡ true) where
     abbrev crews : List ℕ
-    crews = fillingBefore table P d t A .crews
+    crews = fillingBefore table P d t ed A .crews
 
     solves : Solves work (present table A) (λ j. getD crews j 0)
     solves = found-list work (present table A) ready _ (begin (present table A)) (state-begin work (present table A)) e .solves
@@ -82,16 +82,16 @@ module _ {table : Table} {P d : ℕ} (fair : Fair table P d) (t A : ℕ) where
         }
 
   -- the list that filling ends with
-  pub filling-in-order : filling table P d t A .found ≡ true → InOrder table P d (filling table P d t A .crews)
+  pub filling-in-order : filling table P d t ed A .found ≡ true → InOrder table P d (filling table P d t ed A .crews)
   filling-in-order e =
-      let same = same-as-before fair t A in
+      let same = same-as-before fair t ed A in
       subst (InOrder table P d) (sym (same .crews)) (before-in-order (sym (same .found) ∙ e))
 
 -- the list that is replied to a named absence
-pub named-in-order : (table : Table) (P d t A allowance : ℕ) → P < 2 ^ 32 → (r : Reply) → NamedReply table P d t A allowance r
-    → namedRuling (table .rows) P d t A ≡ ruling.Admitted → r .verdict ≡ Crews → InOrder table P d (r .crews)
-named-in-order table P d t A allowance wide r a ok v =
-    let x = named-crews table P d t A allowance wide r a ok .0 v in
-    let f = admitted-fair table P d t A wide ok in
+pub named-in-order : (table : Table) (P d t ed A allowance : ℕ) → P < 2 ^ 32 → (r : Reply) → NamedReply table P d t ed A allowance r
+    → namedRuling (table .rows) P d t ed A ≡ ruling.Admitted → r .verdict ≡ Crews → InOrder table P d (r .crews)
+named-in-order table P d t ed A allowance wide r a ok v =
+    let x = named-crews table P d t ed A allowance wide r a ok .0 v in
+    let f = admitted-fair table P d t ed A wide ok in
     subst (InOrder table P d) (sym (ap (λ (q : Reply). q .crews) (a .crews ok (x .0) (x .1 .0) (x .1 .1))))
-    (filling-in-order (f .0) t A (list-found (f .0) t A (f .1) (x .1 .0) (x .1 .1)))
+    (filling-in-order (f .0) t ed A (list-found (f .0) t ed A (f .1) (x .1 .0) (x .1 .1)))

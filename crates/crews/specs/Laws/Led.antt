@@ -16,7 +16,7 @@ use Rattle.crews.specs.Filling.{Work, Outcome, placeOf, closeOf, placedO
 use Rattle.crews.specs.Laws.Search.{placed-is, Tried, candidate-of, candidates-ascend, among, First, first, search-is}
 use Rattle.crews.specs.Laws.Sound.{crew}
 use Rattle.crews.specs.Laws.Complete.{Ready}
-use Rattle.crews.specs.Laws.Barren.{lead, Reach, Found, later-placed, joined-placed, fewer-placed, reach-placed, reach-begin, rest-free, wanted-first, first-candidate, barren, found-list}
+use Rattle.crews.specs.Laws.Barren.{lead, Reach, Found, later-placed, joined-placed, fewer-placed, reach-placed, reach-begin, rest-free, wanted-first, first-lacks, first-candidate, barren, found-list}
 
 -- ---- the crews of the first list
 
@@ -35,7 +35,7 @@ module _ (w : Work) (F : ℕ) (r : Ready w F) where
   ahead-placed : (f : Filling) (row j : ℕ) → f .closed < j → Ahead (placedOf w f row) j
   unfolding placeOf closeOf
   ahead-placed f row j l =
-      placed-is w f row (λ g. Ahead g j) (λ z. next (ℕ-discrete (f .closed + 1) j)) (λ z. inl l)
+      placed-is w f row (λ g. Ahead g j) (λ z m. next (ℕ-discrete (f .closed + 1) j)) (λ z. inl l)
     where
       next : Dec (f .closed + 1 ≡ j) → (f .closed + 1 < j) ⊎ ((f .closed + 1 ≡ j) × (_≡_ {A = ℕ} 0 0))
       next (yes e) = inr (e, refl)
@@ -62,7 +62,7 @@ module _ (w : Work) (F : ℕ) (r : Ready w F) where
     begun-by empty = record {
       row = x .row;
       mine = found .kept (f .closed) (x .row) (omega (arith, a .state .shape .closed, going)) (joined-placed w F r f (x .row) (a .state) tried);
-      holder = subst (λ (p : ℕ). Has (w .holders p) (x .row)) (wanted-first w F r f a empty) (tried .candidate .holder);
+      holder = subst (λ (p : ℕ). Has (w .holders p) (x .row)) (wanted-first w F r f a empty) (tried .candidate .holder (first-lacks w F r f a empty));
       lowest = λ i v l m q h. not-lower i v l m q h (decLt v (x .row));
     }
       where

@@ -59,7 +59,7 @@ module _ (w v : Work)
   closed-by : (f : Filling) (row : ℕ) → f .closed ≡ 0 → (placedOf v f row .closed ≡ 0) ⊎ (placedOf v f row .closed ≡ 1)
   unfolding placeOf closeOf
   closed-by f row e =
-      placed-is v f row (λ g. (g .closed ≡ 0) ⊎ (g .closed ≡ 1)) (λ z. inr (omega arith)) (λ z. inl e)
+      placed-is v f row (λ g. (g .closed ≡ 0) ⊎ (g .closed ≡ 1)) (λ z m. inr (omega arith)) (λ z. inl e)
 
   -- from a state in which no crew is closed
   cheaper : (n : ℕ) (f : Filling) → f .closed ≡ 0 → Cheaper (search n w f) (search n v f)
@@ -84,18 +84,18 @@ module _ (w v : Work)
 
 -- ---- at a table
 
-module _ (table : Table) (P d t A : ℕ) (some : 1 ≤ d) where
-  one-crew : Cheaper (filling table P 1 t A) (filling table P d t A)
+module _ (table : Table) (P d t ed A : ℕ) (some : 1 ≤ d) where
+  one-crew : Cheaper (filling table P 1 t ed A) (filling table P d t ed A)
   unfolding placedOf candidates
-  one-crew = cheaper (workOf table P 1 t) (workOf table P d t) (λ f row. refl) (λ f. refl) refl refl some (ones (present table A)) (begin (present table A)) refl
+  one-crew = cheaper (workOf table P 1 t ed) (workOf table P d t ed) (λ f row. refl) (λ f. refl) refl refl some (ones (present table A)) (begin (present table A)) refl
 
   -- one crew needs no more placements than d
-  pub one-crew-need : filling table P 1 t A .need ≤ filling table P d t A .need
+  pub one-crew-need : filling table P 1 t ed A .need ≤ filling table P d t ed A .need
   one-crew-need = one-crew .need
 
   -- and as many where not even one crew can be had
-  pub no-crew-need : Fair table P d → Blocks table P 1 t A → filling table P 1 t A .need ≡ filling table P d t A .need
-  no-crew-need fair b = one-crew .same (blocks-none alone t A b)
+  pub no-crew-need : Fair table P d → Blocks table P 1 t ed A → filling table P 1 t ed A .need ≡ filling table P d t ed A .need
+  no-crew-need fair b = one-crew .same (blocks-none alone t ed A b)
     where
       alone : Fair table P 1
       alone = record { rows = fair .rows; task = fair .task; wide = fair .wide; some = omega arith; few = omega arith }

@@ -9,22 +9,21 @@ use mathlib.Core.List.{List, [], _∷_, List·Memᴰ, List·Memᴰ·head, List·
 use Prim.Native.Nat.{ℕ, zero, suc, _+_, _≤_, _<_}
 use native.Mathlib.Decide.{decLt, ℕ-discrete}
 use native.Mathlib.Omega.{arith}
-use lib.Bits.{bitAnd}
 use lib.Count.{ones}
 use lib.Dec.{leb}
 use lib.ListN.{getD}
 use borrow.Author.Tests.{eq-eqb, ne-eqb, leb-true, leb-false}
-use Rattle.sets.specs.Sets.{bit, Has, bit-below, has-of-sub, and-in, in-and}
+use Rattle.sets.specs.Sets.{bit, Has, bit-below, has-of-sub}
 use Rattle.sets.specs.Members.{members, filter, Ascends}
 use Rattle.sets.specs.Laws.Sums.{either}
 use Rattle.sets.specs.Laws.Members.{has-of-mem, mem-of-has, members-ascend, filter-yes, filter-no, filter-all}
 use Rattle.roster.specs.Limits.{rowLimit}
 use Rattle.crews.specs.declared.Filling.{Filling}
-use Rattle.crews.specs.Filling.{Work, Outcome, closeOf, placedOf, wantedOf, candidates, tryEach, search, begin, plainly, orderly}
-use Rattle.crews.specs.Laws.Search.{ascends-mem, placed-is, from-first, from-next, Candidate, Tried, search-done, search-out, search-full, search-open}
+use Rattle.crews.specs.Filling.{Work, Outcome, closeOf, placedOf, wantedOf, pool, candidates, tryEach, search, begin, plainly, orderly}
+use Rattle.crews.specs.Laws.Search.{ascends-mem, placed-is, from-first, from-next, Candidate, is-candidate, in-pool, Tried, search-done, search-out, search-full, search-open}
 use Rattle.crews.specs.Laws.Sound.{unfinished, state-placed}
 use Rattle.crews.specs.Laws.Complete.{Ready, same-or-not}
-use Rattle.crews.specs.Laws.Barren.{lead, Barren, Reach, later-placed, joined-placed, gone-placed, fewer-placed, reach-placed, reach-begin, wanted-first, barren, found-list}
+use Rattle.crews.specs.Laws.Barren.{lead, Barren, Reach, later-placed, joined-placed, gone-placed, fewer-placed, reach-placed, reach-begin, wanted-first, first-lacks, first-candidate, barren, found-list}
 use Rattle.crews.specs.Laws.Steps.{try-works, try-fails}
 
 -- ---- the outcome of the one is that of the other, with no more placements
@@ -46,13 +45,13 @@ alike-by e f a = record {
 
 -- ---- the two rules
 
-module _ (holds holders : ℕ → ℕ) (P d t F : ℕ) where
+module _ (holds holders : ℕ → ℕ) (P d t least F : ℕ) where
   -- any row may begin a crew: the rule before
   abbrev pub old : Work
-  old = plainly holds holders P d t
+  old = plainly holds holders P d t least
 
   abbrev pub new : Work
-  new = orderly holds holders P d t
+  new = orderly holds holders P d t least
 
   -- a state that both searches reach: what may not begin a crew is barren
   record Way (f : Filling) : Type 0 where
@@ -66,13 +65,13 @@ module _ (holds holders : ℕ → ℕ) (P d t F : ℕ) where
       unfolding closeOf
       from-begun e =
           let first = from-first f row (holds row) e in
-          placed-is old f row (λ g. g .from ≤ row + 1) (λ z. omega (arith, first)) (λ z. omega (arith, first))
+          placed-is old f row (λ g. g .from ≤ row + 1) (λ z m. omega (arith, first)) (λ z. omega (arith, first))
 
       from-going : f .crew ≢ 0 → placedOf old f row .from ≤ f .from
       unfolding closeOf
       from-going n =
           let next = from-next f row (holds row) n in
-          placed-is old f row (λ g. g .from ≤ f .from) (λ z. omega (arith, next)) (λ z. omega (arith, next))
+          placed-is old f row (λ g. g .from ≤ f .from) (λ z m. omega (arith, next)) (λ z. omega (arith, next))
 
     -- ---- the search by either rule, one placement deeper
 
@@ -133,12 +132,7 @@ module _ (holds holders : ℕ → ℕ) (P d t F : ℕ) where
           (record { found = rest .found; crews = rest .crews; need = omega (arith, rest .need) })
 
       abbrev all : ℕ
-      all = bitAnd (holders (wantedOf P f)) (f .free)
-
-      is-candidate : (row : ℕ) → row < rowLimit → Has all row → Candidate old f row
-      is-candidate row l h =
-          let x = and-in (holders (wantedOf P f)) (f .free) row h in
-          record { below = l; holder = x .0; free = x .1 }
+      all = pool old f
 
       -- ---- a crew that is begun already
 
@@ -155,7 +149,7 @@ module _ (holds holders : ℕ → ℕ) (P d t F : ℕ) where
       next-each k [] h = alike-of refl
       next-each k (row ∷ l) h =
           let x = h row (List·Memᴰ·head refl) in
-          let c = is-candidate row (x .0) (x .1) in
+          let c = is-candidate old f row (x .0) (x .1) in
           let tried : Tried old f row = record { going = going; room = room; candidate = c } in
           both row l l
           (row-alike row c (λ v b p q. w .dead v (omega (arith, from-going f row k)) p (later-placed old F r f row (w .reach .state) tried .free v q)))
@@ -269,13 +263,13 @@ module _ (holds holders : ℕ → ℕ) (P d t F : ℕ) where
             these : (row : ℕ) → List·Memᴰ row (members 0 rowLimit all) → Candidate old f row × Has (holders (lead old)) row
             these row m =
                 let x = has-of-mem rowLimit all row m in
-                let k = is-candidate row (x .0) (x .1) in
-                (k, subst (λ (y : ℕ). Has (holders y) row) lowest (k .holder))
+                let k = is-candidate old f row (x .0) (x .1) in
+                (k, subst (λ (y : ℕ). Has (holders y) row) lowest (k .holder (first-lacks old F r f (w .reach) empty)))
 
             whole : (c : ℕ) → 0 ≤ c → Has (holders (lead old)) c → Has (f .free) c → List·Memᴰ c (members 0 rowLimit all)
             whole c b p q =
                 mem-of-has rowLimit all c (bit-below F rowLimit c (r .rows) (has-of-sub (f .free) F (w .reach .state .free) c q))
-                (in-and (holders (wantedOf P f)) (f .free) c (subst (λ (y : ℕ). Has (holders y) c) (sym lowest) p) q)
+                (in-pool old f c (first-candidate old F r f (w .reach) empty c p q))
 
       each : Alike (by-new (candidates new f)) (by-old (candidates old f))
       each = ⊎-elim first next (same-or-not (f .crew) 0)

@@ -1,16 +1,17 @@
 -- The definition step by step: what `candidates`, `placedOf`, `tryEach` and `search` give, from what they test. A proof about filling cites
 -- these and looks into no definition again. Assumes nothing.
-use mathlib.Core.Path.{_≡_, refl, sym, ap, _∙_, subst}
-use mathlib.Core.Bool.{Bool, true, false, true≢false}
+use mathlib.Core.Path.{_≡_, refl, sym, ap, ap₂, _∙_, subst}
+use mathlib.Core.Bool.{Bool, true, false, _&&_, true≢false}
 use mathlib.Core.Logic.{_⊎_, inl, inr, ⊎-elim, _≢_}
 use mathlib.Core.List.{List, [], _∷_, List·Memᴰ, List·Memᴰ·head, List·Memᴰ·tail, List·Memᴰ·cases-cons, List·Memᴰ·not-nil}
 use Prim.Native.Nat.{ℕ, zero, suc, _+_, _^_, _≤_, _<_}
+use native.Mathlib.Decide.{ℕ-discrete}
 use native.Mathlib.Omega.{arith}
 use lib.Bits.{bitAnd}
 use lib.Count.{ones, trailingZeros}
 use lib.Dec.{eqb, leb}
 use borrow.Author.Tests.{eq-eqb, ne-eqb, le-leb, lt-leb, eqb-true, eqb-false, leb-true, leb-false}
-use Rattle.sets.specs.Sets.{bit, Has, and-in, in-and, missing-lt, missing-in, trailing-least}
+use Rattle.sets.specs.Sets.{bit, Has, bit-le, bit-and, and-in, in-and, missing-lt, missing-in, trailing-least}
 use Rattle.sets.specs.Members.{members, setOf, Ascends}
 use Rattle.sets.specs.Laws.Sums.{either, toN-true}
 use Rattle.sets.specs.Laws.Build.{setOf-bit}
@@ -18,7 +19,7 @@ use Rattle.sets.specs.Laws.Members.{has-of-mem, mem-of-has, members-ascend, fil
 use Rattle.roster.specs.Limits.{rowLimit}
 use Rattle.roster.specs.Replies.{noCrews}
 use Rattle.crews.specs.declared.Filling.{Filling}
-use Rattle.crews.specs.Filling.{Work, Outcome, nothing, complete, missingOf, placeOf, closeOf, placedOf, wantedOf, candidates, tryEach, search}
+use Rattle.crews.specs.Filling.{Work, Outcome, nothing, complete, missingOf, placeOf, closeOf, closesOf, placedOf, wantedOf, poolOf, pool, candidates, tryEach, search}
 
 -- the row placed, and its crew not yet closed
 abbrev pub putOf : Work → Filling → ℕ → Filling
@@ -26,34 +27,42 @@ putOf w f row = placeOf f row (w .holds row)
 
 -- ---- a placement
 
+-- a crew closes where it covers and has members enough; else it stays open
+pub data Closing (task least : ℕ) (f : Filling) : Type 0 where
+  closes : missingOf task f ≡ 0 → least ≤ ones (f .crew) → closesOf task least f ≡ true → Closing task least f
+  stays : (missingOf task f ≢ 0) ⊎ (ones (f .crew) < least) → closesOf task least f ≡ false → Closing task least f
+
+pub closing : (task least : ℕ) (f : Filling) → Closing task least f
+unfolding closesOf
+closing task least f =
+    ⊎-elim
+    (λ e.
+    ⊎-elim
+    (λ l. closes (eqb-true _ 0 e) (leb-true _ _ l) (ap₂ _&&_ e l))
+    (λ l. stays (inr (leb-false _ _ l)) (ap₂ _&&_ e l))
+    (either (leb least (ones (f .crew)))))
+    (λ e. stays (inl (eqb-false _ 0 e)) (ap (λ (b : Bool). b && leb least (ones (f .crew))) e))
+    (either (eqb (missingOf task f) 0))
+
 module _ (w : Work) (f : Filling) (row : ℕ) where
-  pub placed-shut : missingOf (w .task) (putOf w f row) ≡ 0 → w .closes (putOf w f row) ≡ true → placedOf w f row ≡ closeOf (putOf w f row)
+  placed-shut : closesOf (w .task) (w .least) (putOf w f row) ≡ true → placedOf w f row ≡ closeOf (putOf w f row)
   unfolding placedOf
-  placed-shut e c = rw (eq-eqb _ 0 e, c, placedOf)
+  placed-shut c = rw (c, placedOf)
 
-  pub placed-short : missingOf (w .task) (putOf w f row) ≢ 0 → placedOf w f row ≡ putOf w f row
+  placed-kept : closesOf (w .task) (w .least) (putOf w f row) ≡ false → placedOf w f row ≡ putOf w f row
   unfolding placedOf
-  placed-short e = rw (ne-eqb _ 0 e, placedOf)
+  placed-kept c = rw (c, placedOf)
 
-  pub placed-kept : missingOf (w .task) (putOf w f row) ≡ 0 → w .closes (putOf w f row) ≡ false → placedOf w f row ≡ putOf w f row
-  unfolding placedOf
-  placed-kept e c = rw (eq-eqb _ 0 e, c, placedOf)
-
-  -- what holds of the crew closed, where it covers, and of the crew left open, where it does not cover or may not close, holds of either
+  -- what holds of the crew closed, where it covers and has members enough, and of the crew left open, where not, holds of either
   pub placed-is : (Q : Filling → Type 0)
-      → (missingOf (w .task) (putOf w f row) ≡ 0 → Q (closeOf (putOf w f row)))
-      → ((missingOf (w .task) (putOf w f row) ≢ 0) ⊎ (w .closes (putOf w f row) ≡ false) → Q (putOf w f row))
+      → (missingOf (w .task) (putOf w f row) ≡ 0 → w .least ≤ ones (putOf w f row .crew) → Q (closeOf (putOf w f row)))
+      → ((missingOf (w .task) (putOf w f row) ≢ 0) ⊎ (ones (putOf w f row .crew) < w .least) → Q (putOf w f row))
       → Q (placedOf w f row)
-  placed-is Q shut kept =
-      ⊎-elim
-      (λ e.
-      let z = eqb-true _ 0 e in
-      ⊎-elim
-      (λ c. subst Q (sym (placed-shut z c)) (shut z))
-      (λ c. subst Q (sym (placed-kept z c)) (kept (inr c)))
-      (either (w .closes (putOf w f row))))
-      (λ e. let z = eqb-false _ 0 e in subst Q (sym (placed-short z)) (kept (inl z)))
-      (either (eqb (missingOf (w .task) (putOf w f row)) 0))
+  placed-is Q shut kept = go (closing (w .task) (w .least) (putOf w f row))
+    where
+      go : Closing (w .task) (w .least) (putOf w f row) → Q (placedOf w f row)
+      go (closes z l c) = subst Q (sym (placed-shut c)) (shut z l)
+      go (stays z c) = subst Q (sym (placed-kept c)) (kept z)
 
 -- from which row on the next crew may begin: the row after the first of this one
 module _ (f : Filling) (row h : ℕ) where
@@ -67,27 +76,38 @@ module _ (f : Filling) (row h : ℕ) where
 
 -- ---- the candidates
 
--- the permission that is wanted is what the code works out
-pub wanted-is : (task : ℕ) (f : Filling) {m p : ℕ} → m ≡ missingOf task f
-    → p ≡ trailingZeros 32 m
-    → p ≡ wantedOf task f
-wanted-is task f d e = e ∙ ap (trailingZeros 32) d
-
--- it is one of P, and the crew being filled does not hold it
+-- the permission that is wanted is one of P, and the crew being filled does not hold it
 pub wanted-missing : (task : ℕ) (f : Filling) → task < 2 ^ 32 → missingOf task f ≢ 0
     → Has task (wantedOf task f) × (bit (f .held) (wantedOf task f) ≡ 0)
 wanted-missing task f wide some =
     missing-in task (f .held) (wantedOf task f) (trailing-least 32 (missingOf task f) (missing-lt 32 task (f .held) wide) (omega (arith, some)) .has)
 
--- row is one: it holds the permission, and is neither absent nor in a crew
+pub pool-short : (holders : ℕ → ℕ) (missing free : ℕ) → missing ≢ 0 → poolOf holders missing free ≡ bitAnd (holders (trailingZeros 32 missing)) free
+unfolding poolOf
+pool-short holders missing free n = rw (ne-eqb _ 0 n, poolOf)
+
+pub pool-whole : (holders : ℕ → ℕ) (missing free : ℕ) → missing ≡ 0 → poolOf holders missing free ≡ free
+unfolding poolOf
+pool-whole holders missing free e = rw (eq-eqb _ 0 e, poolOf)
+
+-- they are some of the free rows
+pub pool-in : (holders : ℕ → ℕ) (missing free i : ℕ) → bit (poolOf holders missing free) i ≤ bit free i
+pool-in holders missing free i = go (ℕ-discrete missing 0)
+  where
+    go : Dec (missing ≡ 0) → bit (poolOf holders missing free) i ≤ bit free i
+    go (yes e) = omega (arith, ap (λ (x : ℕ). bit x i) (pool-whole holders missing free e))
+    go (no n) =
+        omega (arith, ap (λ (x : ℕ). bit x i) (pool-short holders missing free n), bit-and (holders (trailingZeros 32 missing)) free i)
+
+-- row is a candidate: it is neither absent nor in a crew, and holds the permission that is wanted, where one is
 pub record Candidate (w : Work) (f : Filling) (row : ℕ) : Type 0 where
   pub below : row < rowLimit
-  pub holder : Has (w .holders (wantedOf (w .task) f)) row
+  pub holder : missingOf (w .task) f ≢ 0 → Has (w .holders (wantedOf (w .task) f)) row
   pub free : Has (f .free) row
 
 module _ (w : Work) (f : Filling) where
   abbrev all : ℕ
-  all = bitAnd (w .holders (wantedOf (w .task) f)) (f .free)
+  all = pool w f
 
   begun : eqb (f .crew) 0 ≡ true → candidates w f ≡ members 0 rowLimit (bitAnd (setOf rowLimit (w .begins f)) all)
   unfolding candidates
@@ -97,10 +117,23 @@ module _ (w : Work) (f : Filling) where
   unfolding candidates
   going e = rw (e, candidates)
 
-  is-candidate : (row : ℕ) → row < rowLimit → Has all row → Candidate w f row
-  is-candidate row l h =
-      let x = and-in (w .holders (wantedOf (w .task) f)) (f .free) row h in
-      record { below = l; holder = x .0; free = x .1 }
+  pub is-candidate : (row : ℕ) → row < rowLimit → Has all row → Candidate w f row
+  is-candidate row l h = record {
+    below = l;
+    holder = λ n.
+        and-in (w .holders (wantedOf (w .task) f)) (f .free) row
+        (sym (ap (λ (x : ℕ). bit x row) (pool-short (w .holders) (missingOf (w .task) f) (f .free) n)) ∙ h) .0;
+    free = omega (arith, pool-in (w .holders) (missingOf (w .task) f) (f .free) row, bit-le (f .free) row);
+  }
+
+  pub in-pool : (row : ℕ) → Candidate w f row → Has all row
+  in-pool row c = go (ℕ-discrete (missingOf (w .task) f) 0)
+    where
+      go : Dec (missingOf (w .task) f ≡ 0) → Has all row
+      go (yes e) = ap (λ (x : ℕ). bit x row) (pool-whole (w .holders) (missingOf (w .task) f) (f .free) e) ∙ c .free
+      go (no n) =
+          ap (λ (x : ℕ). bit x row) (pool-short (w .holders) (missingOf (w .task) f) (f .free) n)
+          ∙ in-and (w .holders (wantedOf (w .task) f)) (f .free) row (c .holder n) (c .free)
 
   pub candidate-of : (row : ℕ) → List·Memᴰ row (candidates w f) → Candidate w f row
   candidate-of row m =
@@ -114,7 +147,7 @@ module _ (w : Work) (f : Filling) where
   -- every one is among them that may begin a crew
   pub among : (row : ℕ) → Candidate w f row → w .begins f row ≡ true → List·Memᴰ row (candidates w f)
   among row c b =
-      let h = in-and (w .holders (wantedOf (w .task) f)) (f .free) row (c .holder) (c .free) in
+      let h = in-pool row c in
       let s = setOf-bit rowLimit (w .begins f) row (c .below) ∙ toN-true (w .begins f row) b in
       ⊎-elim
       (λ e.

@@ -19,7 +19,7 @@ use Rattle.sets.specs.Sets.{lt-of-bits, ones-none, ones-with, apart-of-has, sub
 use Rattle.sets.specs.Laws.Sums.{either}
 use Rattle.roster.specs.declared.Table.{Table}
 use Rattle.roster.specs.Limits.{rowLimit, crewLimit}
-use Rattle.roster.specs.Meaning.{held, Covers, CrewList}
+use Rattle.roster.specs.Meaning.{held, Covers, CrewList, leastMembers}
 use Rattle.roster.specs.Replies.{noCrews, Eight}
 use Rattle.crews.specs.declared.Filling.{Filling}
 use Rattle.crews.specs.Filling.{Work, missingOf, placeOf, closeOf, placedOf, search, begin, present}
@@ -65,7 +65,7 @@ shape-placed : (w : Work) (f : Filling) (row : ℕ) → Shape w f → Tried w f 
 unfolding placeOf
 shape-placed w f row s k =
     let l = unfinished w f s (k .going) in
-    placed-is w f row (Shape w) (λ z. shape-close w (putOf w f row) (shape-put w f row s) l) (λ z. shape-put w f row s)
+    placed-is w f row (Shape w) (λ z m. shape-close w (putOf w f row) (shape-put w f row s) l) (λ z. shape-put w f row s)
 
 pub eight : (n : ℕ) (w : Work) (F : ℕ) → Eight (w .crews) (search n w (begin F) .crews)
 eight n w F =
@@ -118,6 +118,7 @@ pub record State (w : Work) (F : ℕ) (f : Filling) : Type 0 where
   pub small : (j : ℕ) → ones (crew f j) ≤ w .size
   pub held : (p : ℕ) → Has (f .held) p → (u : ℕ) × Has (f .crew) u × Has (w .holds u) p
   pub whole : (j : ℕ) → j < f .closed → Held w (crew f j)
+  pub enough : (j : ℕ) → j < f .closed → w .least ≤ ones (crew f j)
 
 module _ (w : Work) (few : w .crews ≤ crewLimit) (F : ℕ) (f : Filling) (row : ℕ) (s : State w F f) (k : Tried w f row) where
   going : f .closed < w .crews
@@ -185,6 +186,7 @@ module _ (w : Work) (few : w .crews ≤ crewLimit) (F : ℕ) (f : Filling) (row 
             (λ h. (row, bit-with-same (f .crew) row, h))
             (or-in (f .held) (w .holds row) p q);
         whole = λ j l p q. let x = s .whole j l p q in (x .0, stays j (x .0) (x .1), x .2);
+        enough = λ j l. omega (arith, ap ones (there j (λ e. omega arith)), s .enough j l);
       }
     where
       grown : (j : ℕ) → Dec (j ≡ f .closed) → ones (crew (putOf w f row) j) ≤ w .size
@@ -196,9 +198,9 @@ module _ (w : Work) (few : w .crews ≤ crewLimit) (F : ℕ) (f : Filling) (row 
 
 -- the crew that is being filled covers: it is closed
 state-close : (w : Work) → w .crews ≤ crewLimit → (F : ℕ) (f : Filling) → State w F f → f .closed < w .crews → missingOf (w .task) f ≡ 0
-    → State w F (closeOf f)
+    → w .least ≤ ones (f .crew) → State w F (closeOf f)
 unfolding closeOf
-state-close w few F f s l z =
+state-close w few F f s l z many =
     record {
       shape = shape-close w f (s .shape) l;
       free = s .free;
@@ -207,6 +209,7 @@ state-close w few F f s l z =
       small = λ j. omega (arith, ap ones (same j), s .small j);
       held = λ p q. absurd (omega (arith, bit-none p));
       whole = λ j m. subst (Held w) (sym (same j)) (go j m (ℕ-discrete j (f .closed)));
+      enough = λ j m. omega (arith, ap ones (same j), fill j m (ℕ-discrete j (f .closed)));
     }
   where
     same : (j : ℕ) → crew (closeOf f) j ≡ crew f j
@@ -214,6 +217,10 @@ state-close w few F f s l z =
 
     before : (j u : ℕ) → Has (crew (closeOf f) j) u → Has (crew f j) u
     before j u q = ap (λ (x : ℕ). bit x u) (sym (same j)) ∙ q
+
+    fill : (j : ℕ) → j < f .closed + 1 → Dec (j ≡ f .closed) → w .least ≤ ones (crew f j)
+    fill j m (yes e) = omega (arith, ap ones (filled-at f j e), many)
+    fill j m (no n) = s .enough j (omega arith)
 
     go : (j : ℕ) → j < f .closed + 1 → Dec (j ≡ f .closed) → Held w (crew f j)
     go j m (yes e) p q =
@@ -226,7 +233,7 @@ unfolding placeOf
 state-placed w few F f row s k =
     let l = unfinished w f (s .shape) (k .going) in
     placed-is w f row (State w F)
-    (λ z. state-close w few F (putOf w f row) (state-put w few F f row s k) l z)
+    (λ z m. state-close w few F (putOf w f row) (state-put w few F f row s k) l z m)
     (λ z. state-put w few F f row s k)
 
 pub state-begin : (w : Work) (F : ℕ) → State w F (begin F)
@@ -239,6 +246,7 @@ state-begin w F =
       small = λ j. omega (arith, ap ones (empty j), ones-none);
       held = λ p q. absurd (omega (arith, bit-none p));
       whole = λ j l. absurd (omega arith);
+      enough = λ j l. absurd (omega arith);
     }
   where
     empty : (j : ℕ) → crew (begin F) j ≡ 0
@@ -285,8 +293,9 @@ in-present table A u h a l z =
     )
 
 -- crews of which each is in order are a list
-module _ (table : Table) (rows : table .rows ≤ rowLimit) (A : ℕ) (w : Work) (few : w .crews ≤ crewLimit) (agrees : Agrees table w) where
-  listed : (f : Filling) → State w (present table A) f → f .closed ≡ w .crews → CrewList table (w .task) (w .crews) (w .size) A (take (w .crews) (f .crews))
+module _ (table : Table) (rows : table .rows ≤ rowLimit) (A : ℕ) (w : Work) (few : w .crews ≤ crewLimit) (agrees : Agrees table w)
+    (ed : ℕ) (least : leastMembers ed ≤ w .least) where
+  listed : (f : Filling) → State w (present table A) f → f .closed ≡ w .crews → CrewList table (w .task) (w .crews) (w .size) ed A (take (w .crews) (f .crews))
   listed f s e =
       record {
         many = length-take-le (w .crews) (f .crews) (omega (arith, s .shape .eight));
@@ -297,6 +306,7 @@ module _ (table : Table) (rows : table .rows ≤ rowLimit) (A : ℕ) (w : Work) 
         present = λ j l.
             subst (λ (c : ℕ). Apart c A) (sym (at j l)) (apart-of-has (crew f j) A (λ u q r. omega (arith, here-in j u q .1)));
         small = λ j l. subst (λ (c : ℕ). ones c ≤ w .size) (sym (at j l)) (s .small j);
+        enough = λ j l. subst (λ (c : ℕ). leastMembers ed ≤ ones c) (sym (at j l)) (omega (arith, s .enough j (omega arith)));
         whole = λ j l. subst (Covers table (w .task)) (sym (at j l)) (λ p q.
             let x = s .whole j (omega arith) p q in
             (x .0, x .1, ap (λ (m : ℕ). bit m p) (sym (agrees .holds (x .0) (here-in j (x .0) (x .1) .0))) ∙ x .2));
@@ -312,9 +322,9 @@ module _ (table : Table) (rows : table .rows ≤ rowLimit) (A : ℕ) (w : Work) 
       outside j u h (inl z) = z
       outside j u h (inr o) = absurd (omega (arith, here-in j u o .0))
 
-  -- What the search finds is a crew list, for any rule of beginning and closing.
+  -- What the search finds is a crew list, for any rule of beginning and any least number of members.
   pub sound : (n : ℕ) → search n w (begin (present table A)) .found ≡ true
-      → CrewList table (w .task) (w .crews) (w .size) A (take (w .crews) (search n w (begin (present table A)) .crews))
+      → CrewList table (w .task) (w .crews) (w .size) ed A (take (w .crews) (search n w (begin (present table A)) .crews))
   sound n =
-      search-keeps w (State w (present table A)) (λ cs. CrewList table (w .task) (w .crews) (w .size) A (take (w .crews) cs))
+      search-keeps w (State w (present table A)) (λ cs. CrewList table (w .task) (w .crews) (w .size) ed A (take (w .crews) cs))
       (λ f row s k. state-placed w few (present table A) f row s k) listed n (begin (present table A)) (state-begin w (present table A))

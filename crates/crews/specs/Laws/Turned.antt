@@ -55,4 +55,5 @@ module _ {w : Work} {F : ℕ} {T : ℕ → ℕ} (t : Solves w F T) (i j : ℕ) (
         sym (turned-back i j a) ∙ ap (turned i j) (t .apart (turned i j a) (turned i j b) u (below a l) (below b m) q r) ∙ turned-back i j b;
     small = λ k l. t .small (turned i j k) (below k l);
     whole = λ k l. t .whole (turned i j k) (below k l);
+    enough = λ k l. t .enough (turned i j k) (below k l);
   }

@@ -1,5 +1,6 @@
 -- What is given back: of any roster in which nobody stands twice, rows that the writer takes; of a roster just filled, its rows. Assumes nothing.
-use mathlib.Core.Path.{_≡_, refl, sym, ap, ap₂, _∙_}
+use mathlib.Core.Path.{_≡_, refl, sym, ap, ap₂, _∙_, subst}
+use mathlib.Core.Bool.{Bool}
 use mathlib.Core.Option.{Option, some, none}
 use mathlib.Core.List.{List, [], _∷_, map, List·Memᴰ·head}
 use Prim.Native.Nat.{ℕ, zero, suc, _+_, _-_, _^_, _≤_, _<_}
@@ -10,9 +11,10 @@ use lib.Seq.{ext-getD}
 use Rattle.sets.specs.Sets.{bit, Has, bit-below, lt-pow, ones-bound, ones-width}
 use Rattle.sets.specs.Arrays.{tabulate, at}
 use Rattle.sets.specs.Laws.Arrays.{length-tabulate, at-tabulate}
-use Rattle.book.specs.Layout.{Contents, Each, Below, Ascends, Admitted}
+use Rattle.book.specs.Layout.{Contents, Own, OwnEdition, hasPersons, hasEditions, Each, Below, Ascends, Admitted}
 use Rattle.book.specs.Laws.Old.{ascending}
-use Rattle.book.specs.declared.Form.the-variants.{Old}
+use Rattle.book.specs.declared.Form.{Form}
+use Rattle.book.specs.declared.Form.the-variants.{Old, Persons, Editions}
 use Rattle.book.specs.declared.Row.{Row}
 use Rattle.values.specs.Values.{nobody, contentsFor, valuesFor}
 use Rattle.values.specs.Laws.OfBook.{values-for}
@@ -22,7 +24,7 @@ use Rattle.live.specs.Laws.Gathering.{map-at}
 use Rattle.live.specs.Laws.Twice.{Once}
 use Rattle.live.specs.declared.Roster.{Roster}
 use Rattle.desk.specs.Filled.{seated}
-use Rattle.desk.specs.Back.{ownRow, placesBy, rowsBack, givenBack}
+use Rattle.desk.specs.Back.{ownRow, formBack, placesBy, rowsBack, givenBack}
 use Rattle.desk.specs.Laws.Order.{Rises, Strict, Distinct, order-same, order-strict, places-many}
 use Rattle.desk.specs.Laws.Seated.{nth, first-places, first-fit, occupied-is, staff-at, held-at}
 
@@ -42,7 +44,18 @@ strict-ascends staff holdings (x ∷ (y ∷ l)) s = (s .0 y (List·Memᴰ·head 
 
 -- the contents that are given back, in the list's own words
 abbrev pub backOf : Roster → Contents → Contents
-backOf r v = record { form = Old; codes = v .codes; rows = rowsBack (r .staff) (r .holdings) (r .occupied); policies = v .policies }
+backOf r v = record { form = formBack (v .form); codes = v .codes; rows = rowsBack (r .staff) (r .holdings) (r .occupied); policies = v .policies }
+
+-- such a row is one of any form, and the form given back says the editions
+own-any : (f : Form) (staff holdings : ℕ) → Own (hasPersons f) (ownRow staff holdings)
+own-any Old staff holdings = refl
+own-any Persons staff holdings = tt
+own-any Editions staff holdings = tt
+
+editions-back : (f : Form) → hasEditions f ≡ hasEditions (formBack f)
+editions-back Old = refl
+editions-back Persons = refl
+editions-back Editions = refl
 
 module _ (r : Roster) (l : Plain) (a : Agrees r l) (once : Once l) where
   somebody : (u : ℕ) (o : Option Somebody) → getD l u none ≡ o → Stands o (bit (r .occupied) u) (at (r .staff) u) (at (r .holdings) u)
@@ -86,9 +99,10 @@ module _ (r : Roster) (l : Plain) (a : Agrees r l) (once : Once l) where
       staff = each-map _ _ (placesBy (r .staff) (r .occupied)) (λ place. numbers place);
       staffAscends = back-ascends;
       persons = each-map _ _ (placesBy (r .staff) (r .occupied)) (λ place. numbers place);
-      own = each-map _ _ (placesBy (r .staff) (r .occupied)) (λ place. refl);
+      own = each-map _ _ (placesBy (r .staff) (r .occupied)) (λ place. own-any (formBack (v .form)) (at (r .staff) place) (at (r .holdings) place));
       holdings = each-map _ _ (placesBy (r .staff) (r .occupied)) (λ place. listed place);
       sound = ok .sound;
+      editions = subst (λ (b : Bool). Each (OwnEdition b) (v .policies)) (editions-back (v .form)) (ok .editions);
     }
 
     pub back-contents : contentsFor (givenBack r (valuesFor v)) ≡ backOf r v

@@ -1,8 +1,9 @@
 -- Request 07, for planners: "a book in which no two rows share a person (another is not taken, and says so)"; "the roster of such a book has the
--- holdings of its rows, and its rows given back, with the book's codes and policies, write the same book in the old form". Assumes nothing.
+-- holdings of its rows, and its rows given back, with the book's codes and policies, write the same book in the old form"; one that names editions
+-- keeps its form, which says them. Assumes nothing.
 use mathlib.Core.Path.{_≡_, refl, sym, ap, ap₂, _∙_, subst, fun-ext}
 use mathlib.Core.Bool.{false}
-use mathlib.Core.Logic.{_↔_}
+use mathlib.Core.Logic.{_↔_, _≢_}
 use mathlib.Core.List.{List, [], _∷_, _++_, map}
 use Prim.Native.Nat.{ℕ, zero, suc, _^_, _≤_, _<_}
 use native.Mathlib.Decide.{decLt}
@@ -30,7 +31,7 @@ use Rattle.book.specs.Laws.Old.{old-different}
 use Rattle.book.specs.Laws.Parts.{layout-parts}
 use Rattle.book.specs.Laws.Values.{each}
 use Rattle.book.specs.declared.Form.{Form}
-use Rattle.book.specs.declared.Form.the-variants.{Old}
+use Rattle.book.specs.declared.Form.the-variants.{Old, Persons, Editions}
 use Rattle.book.specs.declared.Reading.the-variants as read
 use Rattle.book.specs.declared.Row.{Row}
 use Rattle.book.specs.declared.Starts.{Starts}
@@ -47,7 +48,7 @@ use Rattle.live.specs.Laws.Always.{always-from}
 use Rattle.live.specs.Laws.Twice.{Once, once-from}
 use Rattle.live.specs.declared.Roster.{Roster}
 use Rattle.desk.specs.Filled.{seatedBy, seated, plainRows, filledFrom}
-use Rattle.desk.specs.Back.{ownRow, rowsBack, givenBack, inOldForm}
+use Rattle.desk.specs.Back.{ownRow, formBack, rowsBack, givenBack, inBackForm}
 use Rattle.desk.specs.Laws.Taken.{filled-shared, filled-taken, values-good, shares-none}
 use Rattle.desk.specs.Laws.Seated.{column-fit, seated-agrees, seated-once, seated-table}
 use Rattle.desk.specs.Laws.Back.{backOf, back-ascends, back-admitted, back-contents, rows-back}
@@ -114,15 +115,15 @@ module _ (book : List ℕ) (s : Starts) (bytes : Bytes book) (good : readOf book
       let m = 2 ^ length (contentsOf book .codes) in
       column-fit rows (ok .rows) Row.holdings m (omega (arith, lt-pow (length (contentsOf book .codes)))) (ok .holdings) i
 
-  back-is : backOf (seated rows) (contentsOf book) ≡ inOldForm (contentsOf book)
+  back-is : backOf (seated rows) (contentsOf book) ≡ inBackForm (contentsOf book)
   back-is =
-      ap {B = Contents} (λ (l : List Row). record { form = Old; codes = contentsOf book .codes; rows = l; policies = contentsOf book .policies })
+      ap {B = Contents} (λ (l : List Row). record { form = formBack (contentsOf book .form); codes = contentsOf book .codes; rows = l; policies = contentsOf book .policies })
       (rows-back rows (ok .rows) (ok .staffAscends))
 
-  old-admitted : Admitted (inOldForm (contentsOf book))
-  old-admitted = subst Admitted back-is (back-admitted (seated rows) (plainRows rows) book-agrees book-once (contentsOf book) ok numbers listed)
+  given-admitted : Admitted (inBackForm (contentsOf book))
+  given-admitted = subst Admitted back-is (back-admitted (seated rows) (plainRows rows) book-agrees book-once (contentsOf book) ok numbers listed)
 
-  book-back : contentsFor (givenBack (seated rows) (valuesOf book)) ≡ inOldForm (contentsOf book)
+  book-back : contentsFor (givenBack (seated rows) (valuesOf book)) ≡ inBackForm (contentsOf book)
   book-back =
       ap (λ (v : Values). contentsFor (givenBack (seated rows) v)) (values-good book s good)
       ∙ back-contents (seated rows) (plainRows rows) book-agrees book-once (contentsOf book) ok numbers listed
@@ -176,28 +177,37 @@ module _ (book : List ℕ) (s : Starts) (bytes : Bytes book) (good : readOf book
       book-ascends = back-ascends later (plainFrom (plainRows rows) calls) (book-always .0) book-nobody-twice
 
     -- asked of the roster, a question has the reply that it has of the book
-    pub policy-as-book : (way : Way) (P away d t allowance : ℕ) → P < 2 ^ 32 → (r q : Reply)
-        → PolicyAsked way (accountsIn book) P away d t allowance r
-        → PolicyReply way (tableOf (filledFrom book .roster)) P away d t allowance q → r ≡ q
-    policy-as-book way P away d t allowance wide r q k m =
-        policy-as-before (accountsIn book) different way P away d t allowance wide r q k
-        (subst (λ (x : Table). PolicyReply way x P away d t allowance q) (ap (λ (f : Filled). tableOf (f .roster)) book-taken ∙ book-table) m)
+    pub policy-as-book : (way : Way) (P away d t ed allowance : ℕ) → P < 2 ^ 32 → (r q : Reply)
+        → PolicyAsked way (accountsIn book) P away d t ed allowance r
+        → PolicyReply way (tableOf (filledFrom book .roster)) P away d t ed allowance q → r ≡ q
+    policy-as-book way P away d t ed allowance wide r q k m =
+        policy-as-before (accountsIn book) different way P away d t ed allowance wide r q k
+        (subst (λ (x : Table). PolicyReply way x P away d t ed allowance q) (ap (λ (f : Filled). tableOf (f .roster)) book-taken ∙ book-table) m)
 
-    pub named-as-book : (P d t A allowance : ℕ) → P < 2 ^ 32 → (r q : Reply) → NamedAsked (accountsIn book) P d t A allowance r
-        → NamedReply (tableOf (filledFrom book .roster)) P d t A allowance q → r ≡ q
-    named-as-book P d t A allowance wide r q k m =
-        named-as-before (accountsIn book) different P d t A allowance wide r q k
-        (subst (λ (x : Table). NamedReply x P d t A allowance q) (ap (λ (f : Filled). tableOf (f .roster)) book-taken ∙ book-table) m)
+    pub named-as-book : (P d t ed A allowance : ℕ) → P < 2 ^ 32 → (r q : Reply) → NamedAsked (accountsIn book) P d t ed A allowance r
+        → NamedReply (tableOf (filledFrom book .roster)) P d t ed A allowance q → r ≡ q
+    named-as-book P d t ed A allowance wide r q k m =
+        named-as-before (accountsIn book) different P d t ed A allowance wide r q k
+        (subst (λ (x : Table). NamedReply x P d t ed A allowance q) (ap (λ (f : Filled). tableOf (f .roster)) book-taken ∙ book-table) m)
 
-    -- "its rows given back, with the book's codes and policies, write the same book in the old form"
-    pub given-back : contentsFor (givenBack (filledFrom book .roster) (valuesOf book)) ≡ inOldForm (contentsOf book)
+    -- "its rows given back, with the book's codes and policies, write the same book in the old form" (`older-back`), and one that names editions in its
+    -- own
+    pub given-back : contentsFor (givenBack (filledFrom book .roster) (valuesOf book)) ≡ inBackForm (contentsOf book)
     given-back = ap (λ (f : Filled). contentsFor (givenBack (f .roster) (valuesOf book))) book-taken ∙ book-back
 
-    pub writes-old-form : (old new : List ℕ) (r : Wrote) → Writes (contentsFor (givenBack (filledFrom book .roster) (valuesOf book))) old new r
-        → let same = bytesOf (inOldForm (contentsOf book)) in
+    pub writes-back-form : (old new : List ℕ) (r : Wrote) → Writes (contentsFor (givenBack (filledFrom book .roster) (valuesOf book))) old new r
+        → let same = bytesOf (inBackForm (contentsOf book)) in
         length same ≤ length old → (r ≡ Written (length same)) × (new ≡ same ++ drop (length same) old)
-    writes-old-form old new r w room =
-        subst (λ (v : Contents). Writes v old new r) given-back w .written (admitted-none (inOldForm (contentsOf book)) old-admitted) room
+    writes-back-form old new r w room =
+        subst (λ (v : Contents). Writes v old new r) given-back w .written (admitted-none (inBackForm (contentsOf book)) given-admitted) room
+
+  pub older-back : contentsOf book .form ≢ Editions → inBackForm (contentsOf book) .form ≡ Old
+  older-back older = go (contentsOf book .form) older
+    where
+      go : (f : Form) → f ≢ Editions → formBack f ≡ Old
+      go Old n = refl
+      go Persons n = refl
+      go Editions n = absurd (n refl)
 
   -- ---- an old book is taken, and written again as it was
 
@@ -205,15 +215,15 @@ module _ (book : List ℕ) (s : Starts) (bytes : Bytes book) (good : readOf book
     pub old-book-different : Different (accountsIn book)
     old-book-different = subst Different (sym accounts-are) (old-different (contentsOf book) ok old-form)
 
-    same-contents : inOldForm (contentsOf book) ≡ contentsOf book
+    same-contents : inBackForm (contentsOf book) ≡ contentsOf book
     same-contents =
         ap₂ {C = Contents}
         (λ (f : Form) (l : List Row). record { form = f; codes = contentsOf book .codes; rows = l; policies = contentsOf book .policies })
-        (sym old-form) (own-rows rows (subst (λ (f : Form). Each (Own (hasPersons f)) rows) old-form (ok .own)))
+        (ap formBack old-form ∙ sym old-form) (own-rows rows (subst (λ (f : Form). Each (Own (hasPersons f)) rows) old-form (ok .own)))
 
     pub writes-same-book : (old new : List ℕ) (r : Wrote) → Writes (contentsFor (givenBack (filledFrom book .roster) (valuesOf book))) old new r
         → length book ≤ length old → (r ≡ Written (length book)) × (new ≡ book ++ drop (length book) old)
     writes-same-book old new r w room =
-        let same : bytesOf (inOldForm (contentsOf book)) ≡ book = ap bytesOf same-contents ∙ sym (good-layout book s bytes good .bytes) in
-        let out = writes-old-form old-book-different old new r w (omega (arith, ap length same)) in
+        let same : bytesOf (inBackForm (contentsOf book)) ≡ book = ap bytesOf same-contents ∙ sym (good-layout book s bytes good .bytes) in
+        let out = writes-back-form old-book-different old new r w (omega (arith, ap length same)) in
         (out .0 ∙ ap (λ (b : List ℕ). Written (length b)) same, out .1 ∙ ap (λ (b : List ℕ). b ++ drop (length b) old) same)

@@ -4,12 +4,11 @@ use mathlib.Core.List.{List, []}
 use Prim.Native.Nat.{ℕ}
 use Rattle.roster.specs.declared.Policy.{Policy}
 use Rattle.accounts.specs.declared.Accounts.{Accounts}
-use Rattle.questions.specs.Replied.{policyAnswerOf}
 use Rattle.book.specs.Parts.{accountsIn, policyAt}
 use Rattle.book.specs.declared.Listed.{Listed}
 use Rattle.book.specs.declared.Listed.the-variants as listed
 use Rattle.lines.specs.Lines.{lineOf}
-use Rattle.lines.specs.Sheet.{allowance, way, numbersIn, replyTo, lineBy}
+use Rattle.lines.specs.Sheet.{answerTo, numbersIn, replyTo, lineBy}
 use Rattle.text.specs.Laws.Appends.{none, read-as}
 use borrow.Author.Needs.{needs}
 use Rattle.lines.proofs.policy_line.Statement.{statement}
@@ -17,11 +16,11 @@ use Rattle.lines.proofs.policy_line.Tie as tie
 
 there : (book : List ℕ) (index : ℕ) (numbers : List ℕ) (accounts : Accounts) (p : Policy) (l : Listed) → numbers ≡ numbersIn book → accounts ≡ accountsIn book
     → l ≡ policyAt book index → l ≡ listed.Policy p
-    → lineBy book index (policyAt book index) ≡ lineOf numbers index (policyAnswerOf way accounts (p .task) (p .away) (p .crews) (p .size) allowance)
+    → lineBy book index (policyAt book index) ≡ lineOf numbers index (answerTo accounts p)
 unfolding lineBy replyTo
 there book index numbers accounts p l s t e f =
     ap (lineBy book index) (sym e ∙ f)
-    ∙ ap₂ (λ (x : List ℕ) (y : Accounts). lineOf x index (policyAnswerOf way y (p .task) (p .away) (p .crews) (p .size) allowance)) (sym s) (sym t)
+    ∙ ap₂ (λ (x : List ℕ) (y : Accounts). lineOf x index (answerTo y p)) (sym s) (sym t)
 
 missing : (book : List ℕ) (index : ℕ) (l : Listed) → l ≡ policyAt book index → l ≡ listed.NoSuchPolicy → [] ≡ lineBy book index (policyAt book index)
 unfolding lineBy
@@ -32,7 +31,7 @@ line-there : (c : tie.After-policy)
     → let a = c .before .before .before .before .before .args in
     let p = c .policy .given .0 .0 in
     lineBy (a .book .now) (a .index) (policyAt (a .book .now) (a .index))
-    ≡ lineOf (a .numbers .now) (a .index) (policyAnswerOf way (a .accounts) (p .task) (p .away) (p .crews) (p .size) allowance)
+    ≡ lineOf (a .numbers .now) (a .index) (answerTo (a .accounts) p)
 line-there c =
     let s = c .before .before .before .before .before in
     let a = s .args in

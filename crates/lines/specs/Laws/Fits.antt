@@ -43,8 +43,8 @@ use Rattle.questions.specs.Replied.{behind, policyAnswerOf}
 use Rattle.book.specs.Layout.{hasPersons}
 use Rattle.book.specs.Faults.{faultNumber}
 use Rattle.book.specs.Promises.{Bytes}
-use Rattle.book.specs.Reading.{fieldsAt, rows, policies, width, entryAt, past, formOf, startsOf, readOf}
-use Rattle.book.specs.Parts.{startsIn, placeOf, rowPlace, rowFrom, rowByNumber, rowOr0, accountsIn, contentsOf, policyCount, listedBy, policyFrom, policyAt}
+use Rattle.book.specs.Reading.{fieldsAt, rows, policiesOf, entryAt, past, formOf, startsOf, readOf}
+use Rattle.book.specs.Parts.{startsIn, rowPlace, rowFrom, rowByNumber, rowOr0, accountsIn, contentsOf, policyCount, listedBy, policyFrom, policyPlace, policyAt}
 use Rattle.book.specs.Laws.Codec.{number-fits}
 use Rattle.book.specs.Laws.Books.{reply, good-layout}
 use Rattle.book.specs.Laws.Books as books
@@ -138,62 +138,62 @@ line-length numbers index reply i u s =
 -- ---- the line of a policy's reply
 
 -- the crews of a list and the empty ones behind it
-module _ (table : Table) (P d t A : ℕ) (rows : table .rows ≤ 64) (list : CrewList table P d t A (take d (firstList table P d t A))) where
-  crews-disjoint : Disjoint (firstList table P d t A)
+module _ (table : Table) (P d t ed A : ℕ) (rows : table .rows ≤ 64) (list : CrewList table P d t ed A (take d (firstList table P d t ed A))) where
+  crews-disjoint : Disjoint (firstList table P d t ed A)
   crews-disjoint i j n u = go (decLt i d) (decLt j d)
     where
       l : List ℕ
-      l = firstList table P d t A
+      l = firstList table P d t ed A
 
       go : Dec (i < d) → Dec (j < d) → bit (getD l i 0) u + bit (getD l j 0) u ≤ 1
       go (yes a) (yes b) =
           omega (arith, list .disjoint i j a b n u, ap (λ (m : ℕ). bit m u) (getD-take d l i 0 a), ap (λ (m : ℕ). bit m u) (getD-take d l j 0 b))
-      go (no a) b = omega (arith, ap (λ (m : ℕ). bit m u) (crews-past table P d t A i (omega arith)), bit-none u, bit-le (getD l j 0) u)
-      go (yes a) (no b) = omega (arith, ap (λ (m : ℕ). bit m u) (crews-past table P d t A j (omega arith)), bit-none u, bit-le (getD l i 0) u)
+      go (no a) b = omega (arith, ap (λ (m : ℕ). bit m u) (crews-past table P d t ed A i (omega arith)), bit-none u, bit-le (getD l j 0) u)
+      go (yes a) (no b) = omega (arith, ap (λ (m : ℕ). bit m u) (crews-past table P d t ed A j (omega arith)), bit-none u, bit-le (getD l i 0) u)
 
-  crews-wide : (j : ℕ) → getD (firstList table P d t A) j 0 < 2 ^ 64
+  crews-wide : (j : ℕ) → getD (firstList table P d t ed A) j 0 < 2 ^ 64
   crews-wide j = go (decLt j d)
     where
       l : List ℕ
-      l = firstList table P d t A
+      l = firstList table P d t ed A
 
       go : Dec (j < d) → getD l j 0 < 2 ^ 64
       go (yes a) = omega (arith, lt-of-lt-of-le (list .rows j a) (pow-mono rows), getD-take d l j 0 a)
-      go (no a) = omega (arith, crews-past table P d t A j (omega arith))
+      go (no a) = omega (arith, crews-past table P d t ed A j (omega arith))
 
 module _ (numbers : List ℕ) (fits : (row : ℕ) → getD numbers row 0 < 2 ^ 32) (index : ℕ) (early : index < 100) where
-  reply-line : (table : Table) (P s d t : ℕ) → P < 2 ^ 32 → length (lineOf numbers index (policyReplyOf way table P s d t allowance)) ≤ 726
+  reply-line : (table : Table) (P s d t ed : ℕ) → P < 2 ^ 32 → length (lineOf numbers index (policyReplyOf way table P s d t ed allowance)) ≤ 726
   unfolding setsText
-  reply-line table P s d t wide = go (policy-case (needPolicy way table P s d t) table P s d t wide allowance)
+  reply-line table P s d t ed wide = go (policy-case (needPolicy way table P s d t ed) table P s d t ed wide allowance)
     where
       r : Reply
-      r = policyReplyOf way table P s d t allowance
+      r = policyReplyOf way table P s d t ed allowance
 
-      may : PolicyReply way table P s d t allowance r
-      may = policy-allowed way table P s d t wide allowance
+      may : PolicyReply way table P s d t ed allowance r
+      may = policy-allowed way table P s d t ed wide allowance
 
       by : {q : Reply} → r ≡ q → q .units ≤ allowance → length (setsText numbers q (q .verdict)) ≤ 704 → length (lineOf numbers index r) ≤ 726
       by {q} e u l = subst (λ (x : Reply). length (lineOf numbers index x) ≤ 726) (sym e) (line-length numbers index q early (omega arith) l)
 
-      go : Case (needPolicy way table P s d t) table P s d t allowance → length (lineOf numbers index r) ≤ 726
+      go : Case (needPolicy way table P s d t ed) table P s d t ed allowance → length (lineOf numbers index r) ≤ 726
       go (is-refused refusal e) = by (may .refused refusal e) (omega arith) (omega arith)
       go (is-undecided e l) = by (may .undecided e l) (omega arith) (omega arith)
       go (is-yes e l h) =
-          let fair = admitted-fair table P s d t wide e in
-          let list = holds-list table P s d t fair h in
+          let fair = admitted-fair table P s d t ed wide e in
+          let list = holds-list table P s d t ed fair h in
           by (may .yes e l h) l
-          (crews-length numbers fits (firstList table P d t 0) (crews-disjoint table P d t 0 (fair .rows) list) (crews-wide table P d t 0 (fair .rows) list))
+          (crews-length numbers fits (firstList table P d t ed 0) (crews-disjoint table P d t ed 0 (fair .rows) list) (crews-wide table P d t ed 0 (fair .rows) list))
       go (is-no e l A f) =
           by (may .no e l A f) l
-          (set-length numbers fits A (lt-of-lt-of-le (f .rows) (pow-mono (admitted-fair table P s d t wide e .rows))))
+          (set-length numbers fits A (lt-of-lt-of-le (f .rows) (pow-mono (admitted-fair table P s d t ed wide e .rows))))
 
   -- and over accounts
-  answer-line : (a : Accounts) (P s d t : ℕ) → P < 2 ^ 32 → length (lineOf numbers index (policyAnswerOf way a P s d t allowance)) ≤ 726
+  answer-line : (a : Accounts) (P s d t ed : ℕ) → P < 2 ^ 32 → length (lineOf numbers index (policyAnswerOf way a P s d t ed allowance)) ≤ 726
   unfolding setsText
-  answer-line a P s d t wide = go (accountsRuling a)
+  answer-line a P s d t ed wide = go (accountsRuling a)
     where
-      go : (first : Ruling) → length (lineOf numbers index (behind first (policyReplyOf way (merged a) P s d t allowance))) ≤ 726
-      go ruling.Admitted = reply-line (merged a) P s d t wide
+      go : (first : Ruling) → length (lineOf numbers index (behind first (policyReplyOf way (merged a) P s d t ed allowance))) ≤ 726
+      go ruling.Admitted = reply-line (merged a) P s d t ed wide
       go (ruling.Refused refusal) = line-length numbers index (replyWith noCrews 0 0 0 (Refused refusal)) early (omega arith) (omega arith)
 
 -- ---- the lines of a book
@@ -235,16 +235,16 @@ module _ (book : List ℕ) (bytes : Bytes book) where
 
   line-fits : (index : ℕ) → index < 100 → length (lineBy book index (policyAt book index)) ≤ 726
   unfolding policyAt lineBy replyTo fieldsAt
-  line-fits index early = at (placeOf (width policies) book (startsIn book .policies) index)
+  line-fits index early = at (policyPlace book (startsIn book .policies) index)
     where
       made : (p : Policy) → p .task < 2 ^ 32 → (r : Ruling) → length (lineBy book index (listedBy (madeBy r p))) ≤ 726
-      made p wide ruling.Admitted = answer-line (numbersIn book) numbers-fit index early (accountsIn book) (p .task) (p .away) (p .crews) (p .size) wide
+      made p wide ruling.Admitted = answer-line (numbersIn book) numbers-fit index early (accountsIn book) (p .task) (p .away) (p .crews) (p .size) (p .edition) wide
       made p wide (ruling.Refused refusal) = omega arith
 
       at : (place : Place) → length (lineBy book index (policyFrom book place)) ≤ 726
       at (place.At a) =
-          let p = entryAt policies book a in
-          made p (number-fits 4 book a bytes) (policyRuling 0 (p .task) (p .away) (p .crews) (p .size))
+          let p = entryAt (policiesOf (formOf book)) book a in
+          made p (number-fits 4 book a bytes) (policyRuling 0 (p .task) (p .away) (p .crews) (p .size) (p .edition))
       at place.Nothing = omega arith
 
   lines-fit : (n index : ℕ) → index + n ≤ 100 → length (linesFrom book index n) ≤ 726 * n
@@ -258,11 +258,11 @@ module _ (book : List ℕ) (bytes : Bytes book) where
         lines-fit n (suc index) (omega arith),
       )
 
-  -- ---- the line of a refused book: its first 1,061 bytes decide, and its place is none past them
+  -- ---- the line of a refused book: its first 1,093 bytes decide, and its place is none past them
 
   place-early : (f : Fault) (at : ℕ) → readOf book ≡ read.Refused f at → at < 10000
   place-early f at e =
-      omega (arith, refused-place (take 1061 book) f at (sym (prefix-reply book) ∙ e), length-take 1061 book)
+      omega (arith, refused-place (take 1093 book) f at (sym (prefix-reply book) ∙ e), length-take 1093 book)
 
   refusal-few : (r : Refusal) → numberOf r < 100
   refusal-few refusal.Rows = omega arith
@@ -271,6 +271,7 @@ module _ (book : List ℕ) (bytes : Bytes book) where
   refusal-few refusal.Crews = omega arith
   refusal-few refusal.Size = omega arith
   refusal-few refusal.Absence = omega arith
+  refusal-few refusal.Edition = omega arith
 
   fault-few : (f : Fault) → faultNumber f < 100
   fault-few Short = omega arith

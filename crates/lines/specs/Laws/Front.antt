@@ -11,22 +11,22 @@ use borrow.Author.Tests.{ltb-false}
 use Rattle.roster.specs.Laws.Rulings.{inside}
 use Rattle.book.specs.Reading.{countAt, past, formOf, front, readOf}
 use Rattle.book.specs.Laws.Books.{rowsAt, policiesAt, BookSound, Good, Refused, reply}
-use Rattle.book.specs.Laws.Prefix.{near-front, near-row, prefix-reply}
+use Rattle.book.specs.Laws.Prefix.{near-front, near-row, near-policy, prefix-reply}
 use Rattle.book.specs.declared.Form.{Form}
 use Rattle.lines.specs.Sheet.{sheetBy, sheetOf, enough}
 
--- a book without fault is no longer than its counts allow, in either form
-sound-short : (form : Form) (book : List ℕ) → BookSound form book → length book ≤ 1060
+-- a book without fault is no longer than its counts allow, in every form
+sound-short : (form : Form) (book : List ℕ) → BookSound form book → length book ≤ 1092
 unfolding past
 sound-short form book s =
     let listed : countAt book (front form) ≤ 32 = inside 32 (countAt book (front form)) (s .first .inRange) .1 in
     let many : countAt book (rowsAt form book) ≤ 64 = ltb-false 64 (countAt book (rowsAt form book)) (s .second .inRange) in
     let asked : countAt book (policiesAt form book) ≤ 32 = ltb-false 32 (countAt book (policiesAt form book)) (s .third .inRange) in
-    omega (arith, s .ends, near-front form, near-row form (countAt book (rowsAt form book)) many)
+    omega (arith, s .ends, near-front form, near-row form (countAt book (rowsAt form book)) many, near-policy form (countAt book (policiesAt form book)) asked)
 
--- the reply to a front of at least 1061 bytes
-front-reply : (n : ℕ) (book : List ℕ) → 1061 ≤ n → readOf (take n book) ≡ readOf book
-front-reply n book h = prefix-reply (take n book) ∙ ap readOf (take-take 1061 n book h) ∙ sym (prefix-reply book)
+-- the reply to a front of at least 1093 bytes
+front-reply : (n : ℕ) (book : List ℕ) → 1093 ≤ n → readOf (take n book) ≡ readOf book
+front-reply n book h = prefix-reply (take n book) ∙ ap readOf (take-take 1093 n book h) ∙ sym (prefix-reply book)
 
 -- the sheet of any string is that of its front
 pub sheet-front : (book : List ℕ) → sheetOf (take enough book) ≡ sheetOf book

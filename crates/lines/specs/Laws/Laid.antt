@@ -12,7 +12,7 @@ use Rattle.accounts.specs.declared.Accounts.{Accounts}
 use Rattle.accounts.specs.declared.People.{People}
 use Rattle.accounts.specs.Persons.{peopleOf}
 use Rattle.accounts.specs.Laws.Rulings.{few-admitted}
-use Rattle.questions.specs.Replied.{behind, policyAnswerOf}
+use Rattle.questions.specs.Replied.{behind}
 use Rattle.book.specs.Layout.{Contents, LayoutOf}
 use Rattle.book.specs.Parts.{policyAt}
 use Rattle.book.specs.Promises.{policyBy, accountsFor}
@@ -20,11 +20,11 @@ use Rattle.book.specs.Laws.Books.{layout-good}
 use Rattle.book.specs.Laws.Parts.{layout-parts}
 use Rattle.book.specs.declared.Listed.the-variants as listed
 use Rattle.lines.specs.Lines.{lineOf}
-use Rattle.lines.specs.Sheet.{allowance, way, numbersIn, replyTo, lineBy, linesFrom, sheetBy, sheetOf}
+use Rattle.lines.specs.Sheet.{allowance, way, answerTo, numbersIn, replyTo, lineBy, linesFrom, sheetBy, sheetOf}
 
 -- the reply to a policy over these persons, and the lines of policies, with the indices from this one on
 abbrev pub replyOver : People → Policy → Reply
-replyOver people p = policyReplyOf way (people .table) (p .task) (p .away) (p .crews) (p .size) allowance
+replyOver people p = policyReplyOf way (people .table) (p .task) (p .away) (p .crews) (p .size) (p .edition) allowance
 
 unfoldable pub linesOver : People → ℕ → List Policy → List ℕ
 linesOver people index [] = []
@@ -40,7 +40,7 @@ module _ (v : Contents) (book : List ℕ) (l : LayoutOf v book) where
   unfolding replyTo
   reply-laid p =
       let a = accountsFor v in
-      ap (λ (x : Accounts). policyAnswerOf way x (p .task) (p .away) (p .crews) (p .size) allowance) (layout-parts v book l .accounts)
+      ap (λ (x : Accounts). answerTo x p) (layout-parts v book l .accounts)
       ∙ ap (λ (first : Ruling). behind first (replyOver (peopleOf a) p)) (few-admitted a (l .admitted .rows))
 
   lines-laid : (index : ℕ) (policies : List Policy) → ((j : ℕ) → policyAt book (index + j) ≡ policyBy (getElem? policies j))

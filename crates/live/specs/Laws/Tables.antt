@@ -97,11 +97,11 @@ pub numbers-always : (calls : List Call) → gatheredOf (after calls .occupied) 
 numbers-always calls = numbers-of-plain (after calls) (plainAfter calls) (agrees calls)
 
 -- "A policy asked of the roster has the reply of the table of occupied places in place order": of the plain list's own table
-pub policy-of-plain : (calls : List Call) (way : Way) (P s d t allowance : ℕ) (reply : Reply)
-    → PolicyReply way (tableOf (after calls)) P s d t allowance reply
-    → PolicyReply way (plainTable (plainAfter calls)) P s d t allowance reply
-policy-of-plain calls way P s d t allowance reply h = subst (λ (x : Table). PolicyReply way x P s d t allowance reply) (table-always calls) h
+pub policy-of-plain : (calls : List Call) (way : Way) (P s d t ed allowance : ℕ) (reply : Reply)
+    → PolicyReply way (tableOf (after calls)) P s d t ed allowance reply
+    → PolicyReply way (plainTable (plainAfter calls)) P s d t ed allowance reply
+policy-of-plain calls way P s d t ed allowance reply h = subst (λ (x : Table). PolicyReply way x P s d t ed allowance reply) (table-always calls) h
 
-pub named-of-plain : (calls : List Call) (P d t A allowance : ℕ) (reply : Reply) → NamedReply (tableOf (after calls)) P d t A allowance reply
-    → NamedReply (plainTable (plainAfter calls)) P d t A allowance reply
-named-of-plain calls P d t A allowance reply h = subst (λ (x : Table). NamedReply x P d t A allowance reply) (table-always calls) h
+pub named-of-plain : (calls : List Call) (P d t ed A allowance : ℕ) (reply : Reply) → NamedReply (tableOf (after calls)) P d t ed A allowance reply
+    → NamedReply (plainTable (plainAfter calls)) P d t ed A allowance reply
+named-of-plain calls P d t ed A allowance reply h = subst (λ (x : Table). NamedReply x P d t ed A allowance reply) (table-always calls) h

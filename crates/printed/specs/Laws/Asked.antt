@@ -30,9 +30,9 @@ use Rattle.printed.specs.Laws.Lines.{line-text}
 use Rattle.printed.specs.Laws.Sheets.{lineAt, sheet-line}
 
 -- what is not refused without a table is not refused with one of few enough rows
-admitted-with : (n P s d t : ℕ) → n ≤ rowLimit → policyRuling 0 P s d t ≡ Admitted → policyRuling n P s d t ≡ Admitted
+admitted-with : (n P s d t ed : ℕ) → n ≤ rowLimit → policyRuling 0 P s d t ed ≡ Admitted → policyRuling n P s d t ed ≡ Admitted
 unfolding policyRuling
-admitted-with n P s d t l e = rw (le-ltb rowLimit n l) e
+admitted-with n P s d t ed l e = rw (le-ltb rowLimit n l) e
 
 module _ (book : List ℕ) (i : ℕ) (v : Contents) (p : Policy) (o : PolicyOf book i v p) where
   fits : PolicyFits (length (v .codes)) p
@@ -41,21 +41,21 @@ module _ (book : List ℕ) (i : ℕ) (v : Contents) (p : Policy) (o : PolicyOf b
   pub task-wide : p .task < 2 ^ 32
   task-wide = lt-of-lt-of-le (fits .task) (pow-mono (o .layout .admitted .permissions))
 
-  pub policy-admitted : Admits (tableFor v) (p .task) (p .away) (p .crews) (p .size)
-  policy-admitted = admitted-with (persons (accountsFor v)) (p .task) (p .away) (p .crews) (p .size) (persons-few (accountsFor v)) (fits .sound)
+  pub policy-admitted : Admits (tableFor v) (p .task) (p .away) (p .crews) (p .size) (p .edition)
+  policy-admitted = admitted-with (persons (accountsFor v)) (p .task) (p .away) (p .crews) (p .size) (p .edition) (persons-few (accountsFor v)) (fits .sound)
 
   pub policy-reply : MayReply v p (replyTo book p)
   policy-reply =
       rw (reply-laid v book (o .layout) p)
-      (policy-allowed skipping (tableFor v) (p .task) (p .away) (p .crews) (p .size) task-wide allowance)
+      (policy-allowed skipping (tableFor v) (p .task) (p .away) (p .crews) (p .size) (p .edition) task-wide allowance)
 
-  pub policy-tells : Tells skipping (tableFor v) (p .task) (p .away) (p .crews) (p .size) allowance (replyTo book p)
-  policy-tells = policy-exactly skipping (tableFor v) (p .task) (p .away) (p .crews) (p .size) task-wide allowance (replyTo book p) policy-reply
+  pub policy-tells : Tells skipping (tableFor v) (p .task) (p .away) (p .crews) (p .size) (p .edition) allowance (replyTo book p)
+  policy-tells = policy-exactly skipping (tableFor v) (p .task) (p .away) (p .crews) (p .size) (p .edition) task-wide allowance (replyTo book p) policy-reply
 
 -- what line i of a sheet is
 pub record PolicyLine (book : List ℕ) (i : ℕ) (v : Contents) (p : Policy) : Type 0 where
   pub reply : Reply
-  pub admitted : Admits (tableFor v) (p .task) (p .away) (p .crews) (p .size)
+  pub admitted : Admits (tableFor v) (p .task) (p .away) (p .crews) (p .size) (p .edition)
   pub allowed : MayReply v p reply
   pub text : List ℕ
   pub line : getElem? (linesOf (sheetOf book)) i ≡ some text

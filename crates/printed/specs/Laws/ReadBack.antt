@@ -57,7 +57,7 @@ module _ (n : ℕ) (few : n ≤ rowLimit) (numbers : List ℕ) (different : Diff
 
 over-shown : (n : ℕ) (r : Reply) → ReplyOver n r → Shown n r
 over-shown n r o =
-    allowed-shown (o .way) (o .table) (o .task) (o .away) (o .crews) (o .size) (o .wide) (o .allowance) (o .admitted) r (o .allowed) n (o .few)
+    allowed-shown (o .way) (o .table) (o .task) (o .away) (o .crews) (o .size) (o .edition) (o .wide) (o .allowance) (o .admitted) r (o .allowed) n (o .few)
 
 -- two replies that may be given, with the same line over the same names, are the same reply, and have the same index
 pub line-read-back : (n : ℕ) → n ≤ rowLimit → (numbers : List ℕ) → Different n numbers → (i j : ℕ) (r q : Reply) → ReplyOver n r → ReplyOver n q

@@ -78,18 +78,18 @@ module _ (book : List ℕ) (i : ℕ) (v : Contents) (p : Policy) (o : PolicyOf b
   abbrev given : Reply
   given = replyTo book p
 
-  abbrev admits : Admits (tableFor v) (p .task) (p .away) (p .crews) (p .size)
+  abbrev admits : Admits (tableFor v) (p .task) (p .away) (p .crews) (p .size) (p .edition)
   admits = policy-admitted book i v p o
 
-  abbrev tells : Tells skipping (tableFor v) (p .task) (p .away) (p .crews) (p .size) allowance (replyTo book p)
+  abbrev tells : Tells skipping (tableFor v) (p .task) (p .away) (p .crews) (p .size) (p .edition) allowance (replyTo book p)
   tells = policy-tells book i v p o
 
   abbrev fair : Fair (tableFor v) (p .task) (p .crews)
-  fair = admitted-fair (tableFor v) (p .task) (p .away) (p .crews) (p .size) (task-wide book i v p o) (policy-admitted book i v p o)
+  fair = admitted-fair (tableFor v) (p .task) (p .away) (p .crews) (p .size) (p .edition) (task-wide book i v p o) (policy-admitted book i v p o)
 
   abbrev shown : Shown (tableFor v .rows) (replyTo book p)
   shown =
-      allowed-shown skipping (tableFor v) (p .task) (p .away) (p .crews) (p .size) (task-wide book i v p o) allowance
+      allowed-shown skipping (tableFor v) (p .task) (p .away) (p .crews) (p .size) (p .edition) (task-wide book i v p o) allowance
       (policy-admitted book i v p o) (replyTo book p) (policy-reply book i v p o) (tableFor v .rows) (omega arith)
 
   -- ---- the word
@@ -130,20 +130,20 @@ module _ (book : List ℕ) (i : ℕ) (v : Contents) (p : Policy) (o : PolicyOf b
   -- else yes exactly if each absence of at most s leaves a crew list
   pub yes-exactly : Prints book i (quoted "yes")
       ↔ ((needOf v p ≤ allowance)
-      × ((A : ℕ) → Absence (tableFor v) (p .away) A → (crews : List ℕ) × CrewList (tableFor v) (p .task) (p .crews) (p .size) A crews))
+      × ((A : ℕ) → Absence (tableFor v) (p .away) A → (crews : List ℕ) × CrewList (tableFor v) (p .task) (p .crews) (p .size) (p .edition) A crews))
   unfolding verdictWord
   yes-exactly =
       let said = word-printed Yes says-yes in
-      let exactly = policy-yes skipping (tableFor v) (p .task) (p .away) (p .crews) (p .size) (task-wide book i v p o) allowance given (policy-reply book i v p o) in
+      let exactly = policy-yes skipping (tableFor v) (p .task) (p .away) (p .crews) (p .size) (p .edition) (task-wide book i v p o) allowance given (policy-reply book i v p o) in
       (λ x. let h = exactly .0 (said .0 x) in (h .1, h .2), λ h. said .1 (exactly .1 (admits, h .0, h .1)))
 
   -- and no exactly if one of them leaves none
   pub no-exactly : Prints book i (quoted "no")
-      ↔ ((needOf v p ≤ allowance) × ((A : ℕ) × Absence (tableFor v) (p .away) A × Blocks (tableFor v) (p .task) (p .crews) (p .size) A))
+      ↔ ((needOf v p ≤ allowance) × ((A : ℕ) × Absence (tableFor v) (p .away) A × Blocks (tableFor v) (p .task) (p .crews) (p .size) (p .edition) A))
   unfolding verdictWord
   no-exactly =
       let said = word-printed No says-no in
-      let exactly = policy-no skipping (tableFor v) (p .task) (p .away) (p .crews) (p .size) (task-wide book i v p o) allowance given (policy-reply book i v p o) in
+      let exactly = policy-no skipping (tableFor v) (p .task) (p .away) (p .crews) (p .size) (p .edition) (task-wide book i v p o) allowance given (policy-reply book i v p o) in
       (λ x. let h = exactly .0 (said .0 x) in (h .1, h .2), λ h. said .1 (exactly .1 (admits, h .0, h .1)))
 
   -- ---- what stands behind the word
@@ -153,18 +153,18 @@ module _ (book : List ℕ) (i : ℕ) (v : Contents) (p : Policy) (o : PolicyOf b
   yes-filled e =
       let list = tells .crews e in
       filled-take (p .crews) (given .crews) (omega (arith, tells .eight .many, fair .few))
-      (list-some (tableFor v) (p .task) (p .crews) (p .size) 0 (fair .task) (given .crews) (list .1) (tells .eight)) (tells .eight .past)
+      (list-some (tableFor v) (p .task) (p .crews) (p .size) (p .edition) 0 (fair .task) (given .crews) (list .1) (tells .eight)) (tells .eight .past)
       ∙ ap (take (p .crews)) (list .0)
 
-  first-list : given .verdict ≡ Yes → CrewList (tableFor v) (p .task) (p .crews) (p .size) 0 (firstCrews v p)
+  first-list : given .verdict ≡ Yes → CrewList (tableFor v) (p .task) (p .crews) (p .size) (p .edition) 0 (firstCrews v p)
   first-list e =
       let list = tells .crews e in
-      subst (λ (l : List ℕ). CrewList (tableFor v) (p .task) (p .crews) (p .size) 0 (take (p .crews) l)) (list .0) (list .1)
+      subst (λ (l : List ℕ). CrewList (tableFor v) (p .task) (p .crews) (p .size) (p .edition) 0 (take (p .crews) l)) (list .0) (list .1)
 
   -- the units are the need, and exactly d crews stand between the slashes
   pub yes-crews : (rest : List ℕ) → HasLine (sheetOf book) (decimal i ␣ quoted "yes" ␣ rest)
       → (rest ≡ decimal (needOf v p) ␣ joined slash (map (namesOf v) (firstCrews v p)))
-      × CrewList (tableFor v) (p .task) (p .crews) (p .size) 0 (firstCrews v p)
+      × CrewList (tableFor v) (p .task) (p .crews) (p .size) (p .edition) 0 (firstCrews v p)
   unfolding verdictWord setsText
   yes-crews rest m =
       let h = word-of Yes says-yes rest m in
@@ -176,7 +176,7 @@ module _ (book : List ℕ) (i : ℕ) (v : Contents) (p : Policy) (o : PolicyOf b
 
   -- with no the names are those of the first blocker
   pub no-names : (rest : List ℕ) → HasLine (sheetOf book) (decimal i ␣ quoted "no" ␣ rest)
-      → (A : ℕ) × FirstBlocker (tableFor v) (p .task) (p .away) (p .crews) (p .size) A × (rest ≡ decimal (needOf v p) ␣ namesOf v A)
+      → (A : ℕ) × FirstBlocker (tableFor v) (p .task) (p .away) (p .crews) (p .size) (p .edition) A × (rest ≡ decimal (needOf v p) ␣ namesOf v A)
   unfolding verdictWord setsText
   no-names rest m =
       let h = word-of No says-no rest m in

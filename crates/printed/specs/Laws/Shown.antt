@@ -38,7 +38,7 @@ pub record Shown (n : ℕ) (r : Reply) : Type 0 where
 -- ---- what an allowed reply shows
 
 -- the crews of a list and the empty sets behind them, as a reply has them
-module _ (table : Table) (P d t A : ℕ) (task : P ≢ 0) (crews : List ℕ) (list : CrewList table P d t A (take d crews)) (eight : Eight d crews) where
+module _ (table : Table) (P d t ed A : ℕ) (task : P ≢ 0) (crews : List ℕ) (list : CrewList table P d t ed A (take d crews)) (eight : Eight d crews) where
   list-at : (j : ℕ) → j < d → getD (take d crews) j 0 ≡ getD crews j 0
   list-at j l = getD-take d crews j 0 l
 
@@ -64,26 +64,26 @@ module _ (table : Table) (P d t A : ℕ) (task : P ≢ 0) (crews : List ℕ) (li
       go (yes b) = absurd (list-some j b e)
       go (no n) = eight .past k (omega arith)
 
-module _ (way : Way) (table : Table) (P s d t : ℕ) (wide : P < 2 ^ 32) (allowance : ℕ) (e : Admits table P s d t)
-    (r : Reply) (a : PolicyReply way table P s d t allowance r) where
-  tells : Tells way table P s d t allowance r
-  tells = policy-exactly way table P s d t wide allowance r a
+module _ (way : Way) (table : Table) (P s d t ed : ℕ) (wide : P < 2 ^ 32) (allowance : ℕ) (e : Admits table P s d t ed)
+    (r : Reply) (a : PolicyReply way table P s d t ed allowance r) where
+  tells : Tells way table P s d t ed allowance r
+  tells = policy-exactly way table P s d t ed wide allowance r a
 
   worded : Worded (r .verdict)
-  worded = go (policy-case (needPolicy way table P s d t) table P s d t wide allowance)
+  worded = go (policy-case (needPolicy way table P s d t ed) table P s d t ed wide allowance)
     where
-      go : Case (needPolicy way table P s d t) table P s d t allowance → Worded (r .verdict)
+      go : Case (needPolicy way table P s d t ed) table P s d t ed allowance → Worded (r .verdict)
       go (is-refused refusal f) = never (cc)
       go (is-undecided f l) = subst Worded (sym (tells .undecided .1 (f, l))) says-undecided
       go (is-yes f l h) = subst Worded (sym (tells .yes .1 (f, l, h))) says-yes
       go (is-no f l A b) = subst Worded (sym (ap Reply.verdict (a .no f l A b))) says-no
 
   -- with yes there is a list with nobody absent, and each of its crews has somebody in it
-  yes-list : r .verdict ≡ Yes → CrewList table P d t 0 (take d (r .crews))
+  yes-list : r .verdict ≡ Yes → CrewList table P d t ed 0 (take d (r .crews))
   yes-list q = tells .crews q .1
 
   task : P ≢ 0
-  task = admitted-fair table P s d t wide e .task
+  task = admitted-fair table P s d t ed wide e .task
 
   no-crew : r .verdict ≢ Yes → (j : ℕ) → getD (r .crews) j 0 ≡ 0
   no-crew n j = ap (λ (l : List ℕ). getD l j 0) (tells .no-crews n) ∙ none-at j
@@ -93,8 +93,8 @@ module _ (way : Way) (table : Table) (P s d t : ℕ) (wide : P < 2 ^ 32) (allowa
 
   crews-shown : (v : Verdict) → Worded v → r .verdict ≡ v → ((j : ℕ) → getD (r .crews) j 0 < 2 ^ table .rows) × NoneBehind (r .crews)
   crews-shown Yes says-yes q = (
-    list-rows table P d t 0 task (r .crews) (yes-list q) (tells .eight),
-    list-behind table P d t 0 task (r .crews) (yes-list q) (tells .eight),
+    list-rows table P d t ed 0 task (r .crews) (yes-list q) (tells .eight),
+    list-behind table P d t ed 0 task (r .crews) (yes-list q) (tells .eight),
   )
   crews-shown No says-no q = none (λ c. never (cc))
   crews-shown Undecided says-undecided q = none (λ c. never (cc))

@@ -22,7 +22,7 @@ module _ (table : Table) (P A p : ℕ) (few : table .rows ≤ rowLimit) where
   -- of a row of the table
   holders-bit : (u : ℕ) → u < table .rows → bit (holdersOf (holdsOf table P) p) u ≡ bit (held table P u) p
   holders-bit u l =
-      let agrees = work-agrees table P 1 1 few in
+      let agrees = work-agrees table P 1 1 1 few in
       agrees .holders p u l ∙ ap (λ (m : ℕ). bit m p) (agrees .holds u l)
 
   pub holders-present : A < 2 ^ table .rows → bitAnd (holdersOf (holdsOf table P) p) (present table A) ≡ holdersHere table P A p

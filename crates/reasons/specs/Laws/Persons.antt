@@ -20,13 +20,13 @@ use Rattle.reasons.specs.Told.{HolderHere, PersonsScarce, PersonsReason}
 use Rattle.reasons.specs.Laws.Scarce.{holder-here}
 
 -- what is a reason has a reason's number
-pub reason-number : (table : Table) (P d t A : ℕ) (w : Explanation) → Reason table P d t A w → 1 ≤ reasonNumber w
-reason-number table P d t A (explanation.Scarce p) x = omega arith
-reason-number table P d t A explanation.NoCrew x = omega arith
-reason-number table P d t A explanation.Overlap x = omega arith
-reason-number table P d t A explanation.Nothing x = absurd x
-reason-number table P d t A explanation.Undecided x = absurd x
-reason-number table P d t A (explanation.Refused refusal) x = absurd x
+pub reason-number : (table : Table) (P d t ed A : ℕ) (w : Explanation) → Reason table P d t ed A w → 1 ≤ reasonNumber w
+reason-number table P d t ed A (explanation.Scarce p) x = omega arith
+reason-number table P d t ed A explanation.NoCrew x = omega arith
+reason-number table P d t ed A explanation.Overlap x = omega arith
+reason-number table P d t ed A explanation.Nothing x = absurd x
+reason-number table P d t ed A explanation.Undecided x = absurd x
+reason-number table P d t ed A (explanation.Refused refusal) x = absurd x
 
 -- in other words that mean the same it is the same reason
 module _ (S Z : ℕ → Type 0) (One None Blocked Un Nul Bar : Type 0) (scarce : (p : ℕ) → S p ↔ Z p) (one : One → Un) (none : None → Nul)
@@ -67,20 +67,20 @@ module _ (a : Accounts) (P : ℕ) where
           (hp, subst (λ (m : ℕ). ones m < d) (sym e) few)
 
   -- there is one crew, in either words
-  abbrev Single : ℕ → ℕ → Type 0
-  Single t A = (crew : List ℕ) × CrewList (merged a) P 1 t A crew
+  abbrev Single : ℕ → ℕ → ℕ → Type 0
+  Single t ed A = (crew : List ℕ) × CrewList (merged a) P 1 t ed A crew
 
-  abbrev PersonsSingle : ℕ → ℕ → Type 0
-  PersonsSingle t A = (crew : List ℕ) × PersonCrews a P 1 t A crew
+  abbrev PersonsSingle : ℕ → ℕ → ℕ → Type 0
+  PersonsSingle t ed A = (crew : List ℕ) × PersonCrews a P 1 t ed A crew
 
-  pub reason-persons : (d t A : ℕ) (w : Explanation) → Reason (merged a) P d t A w ↔ PersonsReason a P d t A w
-  reason-persons d t A w =
-      let list = crews-of-persons a P 1 t A in
-      let one = blocks-of-persons a P 1 t A in
-      let all = blocks-of-persons a P d t A in
+  pub reason-persons : (d t ed A : ℕ) (w : Explanation) → Reason (merged a) P d t ed A w ↔ PersonsReason a P d t ed A w
+  reason-persons d t ed A w =
+      let list = crews-of-persons a P 1 t ed A in
+      let one = blocks-of-persons a P 1 t ed A in
+      let all = blocks-of-persons a P d t ed A in
       let scarce = scarce-persons d A in (
-        reworded (Scarce (merged a) P d A) (PersonsScarce a P d A) (Single t A) (Blocks (merged a) P 1 t A) (Blocks (merged a) P d t A) (PersonsSingle t A)
-            (PersonsBlock a P 1 t A) (PersonsBlock a P d t A) scarce (λ c. (c .0, list (c .0) .0 (c .1))) (one .0) (all .0) w,
-        reworded (PersonsScarce a P d A) (Scarce (merged a) P d A) (PersonsSingle t A) (PersonsBlock a P 1 t A) (PersonsBlock a P d t A) (Single t A)
-            (Blocks (merged a) P 1 t A) (Blocks (merged a) P d t A) (λ p. (scarce p .1, scarce p .0)) (λ c. (c .0, list (c .0) .1 (c .1))) (one .1) (all .1) w,
+        reworded (Scarce (merged a) P d A) (PersonsScarce a P d A) (Single t ed A) (Blocks (merged a) P 1 t ed A) (Blocks (merged a) P d t ed A) (PersonsSingle t ed A)
+            (PersonsBlock a P 1 t ed A) (PersonsBlock a P d t ed A) scarce (λ c. (c .0, list (c .0) .0 (c .1))) (one .0) (all .0) w,
+        reworded (PersonsScarce a P d A) (Scarce (merged a) P d A) (PersonsSingle t ed A) (PersonsBlock a P 1 t ed A) (PersonsBlock a P d t ed A) (Single t ed A)
+            (Blocks (merged a) P 1 t ed A) (Blocks (merged a) P d t ed A) (λ p. (scarce p .1, scarce p .0)) (λ c. (c .0, list (c .0) .1 (c .1))) (one .1) (all .1) w,
       )

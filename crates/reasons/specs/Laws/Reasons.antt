@@ -29,9 +29,9 @@ use Rattle.reasons.specs.Inner.{Stuck}
 use Rattle.reasons.specs.Laws.Scarce.{scarce-blocks}
 use Rattle.reasons.specs.Laws.Lowest.{lowest-scarce, none-scarce, lowest-unique}
 
-module _ (table : Table) (P d t A : ℕ) where
+module _ (table : Table) (P d t ed A : ℕ) where
   -- "give one reason": no two are true with no earlier one
-  pub reason-unique : (w v : Explanation) → Reason table P d t A w → Reason table P d t A v → w ≡ v
+  pub reason-unique : (w v : Explanation) → Reason table P d t ed A w → Reason table P d t ed A v → w ≡ v
   reason-unique (Scarce p) (Scarce q) x y = ap Scarce (lowest-unique table P d A p q x y)
   reason-unique (Scarce p) NoCrew x y = absurd (y .0 p (x .0))
   reason-unique (Scarce p) Overlap x y = absurd (y .0 p (x .0))
@@ -55,12 +55,12 @@ module _ (table : Table) (P d t A : ℕ) where
   reason-unique (Refused refusal) v x y = absurd x
 
   -- not even one crew, so not d
-  pub no-crew-blocks : 1 ≤ d → Blocks table P 1 t A → Blocks table P d t A
-  no-crew-blocks some b = blocks-more-crews table P d 1 t A some b
+  pub no-crew-blocks : 1 ≤ d → Blocks table P 1 t ed A → Blocks table P d t ed A
+  no-crew-blocks some b = blocks-more-crews table P d 1 t ed A some b
 
   -- each reason implies blocking
-  pub reason-blocks : 1 ≤ d → (w : Explanation) → Reason table P d t A w → Blocks table P d t A
-  reason-blocks some (Scarce p) x = scarce-blocks table P d t A p (x .0)
+  pub reason-blocks : 1 ≤ d → (w : Explanation) → Reason table P d t ed A w → Blocks table P d t ed A
+  reason-blocks some (Scarce p) x = scarce-blocks table P d t ed A p (x .0)
   reason-blocks some NoCrew x = no-crew-blocks some (x .1)
   reason-blocks some Overlap x = x .2
   reason-blocks some Nothing x = absurd x
@@ -83,42 +83,42 @@ module _ {table : Table} {P d : ℕ} (fair : Fair table P d) where
   alone = record { rows = fair .rows; task = fair .task; wide = fair .wide; some = omega arith; few = omega arith }
 
   -- a blocking absence has a reason
-  pub reason-given : (t A : ℕ) → A < 2 ^ table .rows → Blocks table P d t A → Reason table P d t A (reasonOf table P d t A)
-  reason-given t A rows b = go (decLt (lowestScarce table P d A) 32)
+  pub reason-given : (t ed A : ℕ) → A < 2 ^ table .rows → Blocks table P d t ed A → Reason table P d t ed A (reasonOf table P d t ed A)
+  reason-given t ed A rows b = go (decLt (lowestScarce table P d A) 32)
     where
-      is : (w : Explanation) → reasonOf table P d t A ≡ w → Reason table P d t A w → Reason table P d t A (reasonOf table P d t A)
-      is w e x = subst (Reason table P d t A) (sym e) x
+      is : (w : Explanation) → reasonOf table P d t ed A ≡ w → Reason table P d t ed A w → Reason table P d t ed A (reasonOf table P d t ed A)
+      is w e x = subst (Reason table P d t ed A) (sym e) x
 
-      one : 32 ≤ lowestScarce table P d A → NoneIs (reasons.Scarce table P d A) → (filling table P 1 t A .found ≡ true) ⊎ (filling table P 1 t A .found ≡ false)
-          → Reason table P d t A (reasonOf table P d t A)
+      one : 32 ≤ lowestScarce table P d A → NoneIs (reasons.Scarce table P d A) → (filling table P 1 t ed A .found ≡ true) ⊎ (filling table P 1 t ed A .found ≡ false)
+          → Reason table P d t ed A (reasonOf table P d t ed A)
       one l none (inl f) =
-          is Overlap (by-overlap (lowestScarce table P d A) (filling table P 1 t A) l f)
-          (none, (take 1 (filling table P 1 t A .crews), finds-list alone t A f), b)
+          is Overlap (by-overlap (lowestScarce table P d A) (filling table P 1 t ed A) l f)
+          (none, (take 1 (filling table P 1 t ed A .crews), finds-list alone t ed A f), b)
       one l none (inr f) =
-          is NoCrew (by-no-crew (lowestScarce table P d A) (filling table P 1 t A) l f) (none, finds-none alone t A rows f)
+          is NoCrew (by-no-crew (lowestScarce table P d A) (filling table P 1 t ed A) l f) (none, finds-none alone t ed A rows f)
 
-      go : Dec (lowestScarce table P d A < 32) → Reason table P d t A (reasonOf table P d t A)
+      go : Dec (lowestScarce table P d A < 32) → Reason table P d t ed A (reasonOf table P d t ed A)
       go (yes l) =
-          is (Scarce (lowestScarce table P d A)) (by-scarce (lowestScarce table P d A) (filling table P 1 t A) l) (lowest-scarce table P d A l)
-      go (no n) = one (omega arith) (none-scarce table P d A (fair .wide) (omega arith)) (either (filling table P 1 t A .found))
+          is (Scarce (lowestScarce table P d A)) (by-scarce (lowestScarce table P d A) (filling table P 1 t ed A) l) (lowest-scarce table P d A l)
+      go (no n) = one (omega arith) (none-scarce table P d A (fair .wide) (omega arith)) (either (filling table P 1 t ed A .found))
 
 -- ---- the question for one crew, asked where an admitted and decided one for d crews finds none
 
-module _ (table : Table) (P d t A allowance : ℕ) (wide : P < 2 ^ 32) (stuck : Stuck table P d t A allowance) (one : Reply)
-    (reply : NamedReply table P 1 t A allowance one) where
+module _ (table : Table) (P d t ed A allowance : ℕ) (wide : P < 2 ^ 32) (stuck : Stuck table P d t ed A allowance) (one : Reply)
+    (reply : NamedReply table P 1 t ed A allowance one) where
   some : 1 ≤ d
-  some = named-within (table .rows) P d t A (stuck .admitted) .0 .some
+  some = named-within (table .rows) P d t ed A (stuck .admitted) .0 .some
 
   -- it is decided, and finds a crew exactly if there is one
-  single : (one .verdict ≡ Crews → (crew : List ℕ) × CrewList table P 1 t A crew) × ((crew : List ℕ) × CrewList table P 1 t A crew → one .verdict ≡ Crews)
+  single : (one .verdict ≡ Crews → (crew : List ℕ) × CrewList table P 1 t ed A crew) × ((crew : List ℕ) × CrewList table P 1 t ed A crew → one .verdict ≡ Crews)
   single =
-      let crews = named-crews table P 1 t A allowance wide one reply (named-one (table .rows) P d t A (stuck .admitted)) in
-      (λ v. crews .0 v .1, λ x. crews .1 (omega (arith, one-crew-need table P d t A some, stuck .decided), x))
+      let crews = named-crews table P 1 t ed A allowance wide one reply (named-one (table .rows) P d t ed A (stuck .admitted)) in
+      (λ v. crews .0 v .1, λ x. crews .1 (omega (arith, one-crew-need table P d t ed A some, stuck .decided), x))
 
-  pub overlap-is : NoneIs (reasons.Scarce table P d A) → one .verdict ≡ Crews → Reason table P d t A Overlap
+  pub overlap-is : NoneIs (reasons.Scarce table P d A) → one .verdict ≡ Crews → Reason table P d t ed A Overlap
   overlap-is none v = (none, single .0 v, stuck .blocks)
 
-  pub no-crew-is : NoneIs (reasons.Scarce table P d A) → one .verdict ≢ Crews → Reason table P d t A NoCrew
+  pub no-crew-is : NoneIs (reasons.Scarce table P d A) → one .verdict ≢ Crews → Reason table P d t ed A NoCrew
   no-crew-is none n =
-      let x = admitted-fair table P d t A wide (stuck .admitted) in
-      (none, ⊎-elim (λ c. absurd (n (single .1 c))) (λ b. b) (decide (alone (x .0)) t A (x .1)))
+      let x = admitted-fair table P d t ed A wide (stuck .admitted) in
+      (none, ⊎-elim (λ c. absurd (n (single .1 c))) (λ b. b) (decide (alone (x .0)) t ed A (x .1)))

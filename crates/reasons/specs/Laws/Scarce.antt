@@ -55,8 +55,8 @@ pigeons (suc n) H c apart some =
         (u, hu, bit-drop-other H v u (λ e. omega (arith, apart j n (omega arith) (omega arith) (λ q. omega arith) v, ap (bit (c j)) e)) ∙ h)
 
 -- too few holders of a permission of the task: no crew list
-pub scarce-blocks : (table : Table) (P d t A p : ℕ) → Scarce table P d A p → Blocks table P d t A
-scarce-blocks table P d t A p (hp, few) crews k =
+pub scarce-blocks : (table : Table) (P d t ed A p : ℕ) → Scarce table P d A p → Blocks table P d t ed A
+scarce-blocks table P d t ed A p (hp, few) crews k =
     let n = pigeons d (holdersHere table P A p) (λ j. getD crews j 0) (k .disjoint) (λ j l. here j l (k .whole j l p hp)) in
     omega arith
   where

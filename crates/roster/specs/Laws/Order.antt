@@ -128,5 +128,5 @@ module _ (table : Table) (P : ℕ) where
       go (no ne) = pick (earlier-total A B (a .rows) (b .rows) ne)
 
   -- so a "no" can name one absence only
-  pub first-blocker-unique : (s d t A B : ℕ) → FirstBlocker table P s d t A → FirstBlocker table P s d t B → A ≡ B
-  first-blocker-unique s d t = first-unique (λ A. (ones A ≤ s) × Blocks table P d t A)
+  pub first-blocker-unique : (s d t ed A B : ℕ) → FirstBlocker table P s d t ed A → FirstBlocker table P s d t ed B → A ≡ B
+  first-blocker-unique s d t ed = first-unique (λ A. (ones A ≤ s) × Blocks table P d t ed A)

@@ -47,14 +47,15 @@ wide table other P A a h = subst (λ (n : ℕ). A < 2 ^ n) (a .count) h
 
 -- ---- crews and blockers
 
-crew-list-to : (table other : Table) (P d t A : ℕ) (crews : List ℕ) → Agree table other P → CrewList table P d t A crews → CrewList other P d t A crews
-crew-list-to table other P d t A crews a k = record {
+crew-list-to : (table other : Table) (P d t ed A : ℕ) (crews : List ℕ) → Agree table other P → CrewList table P d t ed A crews → CrewList other P d t ed A crews
+crew-list-to table other P d t ed A crews a k = record {
   many = k .many;
   rows = λ j l. wide table other P (getD crews j 0) a (k .rows j l);
   disjoint = k .disjoint;
   present = k .present;
   small = k .small;
   whole = λ j l p hp. holds j l p (k .whole j l p hp);
+  enough = k .enough;
 }
   where
     holds : (j : ℕ) → j < d → (p : ℕ) → (u : ℕ) × Has (getD crews j 0) u × Has (held table P u) p
@@ -64,25 +65,25 @@ crew-list-to table other P d t A crews a k = record {
         (u, hu, ap (λ (m : ℕ). bit m p) (sym (a .within u below)) ∙ hp)
 
 -- the same lists are crew lists of both
-pub same-crew-list : (table other : Table) (P d t A : ℕ) (crews : List ℕ) → Agree table other P
-    → CrewList table P d t A crews ↔ CrewList other P d t A crews
-same-crew-list table other P d t A crews a =
-    (crew-list-to table other P d t A crews a, crew-list-to other table P d t A crews (agree-sym table other P a))
+pub same-crew-list : (table other : Table) (P d t ed A : ℕ) (crews : List ℕ) → Agree table other P
+    → CrewList table P d t ed A crews ↔ CrewList other P d t ed A crews
+same-crew-list table other P d t ed A crews a =
+    (crew-list-to table other P d t ed A crews a, crew-list-to other table P d t ed A crews (agree-sym table other P a))
 
 -- the same absences block
-pub same-blocks : (table other : Table) (P d t A : ℕ) → Agree table other P → Blocks table P d t A ↔ Blocks other P d t A
-same-blocks table other P d t A a = (
-  λ b crews k. b crews (same-crew-list table other P d t A crews a .1 k),
-  λ b crews k. b crews (same-crew-list table other P d t A crews a .0 k),
+pub same-blocks : (table other : Table) (P d t ed A : ℕ) → Agree table other P → Blocks table P d t ed A ↔ Blocks other P d t ed A
+same-blocks table other P d t ed A a = (
+  λ b crews k. b crews (same-crew-list table other P d t ed A crews a .1 k),
+  λ b crews k. b crews (same-crew-list table other P d t ed A crews a .0 k),
 )
 
-holds-to : (table other : Table) (P s d t : ℕ) → Agree table other P → Holds table P s d t → Holds other P s d t
-holds-to table other P s d t a h A b k =
-    h A (record { rows = wide other table P A (agree-sym table other P a) (b .rows); few = b .few }) (same-blocks table other P d t A a .1 k)
+holds-to : (table other : Table) (P s d t ed : ℕ) → Agree table other P → Holds table P s d t ed → Holds other P s d t ed
+holds-to table other P s d t ed a h A b k =
+    h A (record { rows = wide other table P A (agree-sym table other P a) (b .rows); few = b .few }) (same-blocks table other P d t ed A a .1 k)
 
 -- the same policies hold
-pub same-holds : (table other : Table) (P s d t : ℕ) → Agree table other P → Holds table P s d t ↔ Holds other P s d t
-same-holds table other P s d t a = (holds-to table other P s d t a, holds-to other table P s d t (agree-sym table other P a))
+pub same-holds : (table other : Table) (P s d t ed : ℕ) → Agree table other P → Holds table P s d t ed ↔ Holds other P s d t ed
+same-holds table other P s d t ed a = (holds-to table other P s d t ed a, holds-to other table P s d t ed (agree-sym table other P a))
 
 -- ---- standing
 
@@ -140,15 +141,15 @@ pub same-worth : (table other : Table) (P A : ℕ) → Agree table other P → A
 same-worth table other P A a hA =
     (worth-to table other P A a hA, worth-to other table P A (agree-sym table other P a) (wide table other P A a hA))
 
-first-to : (table other : Table) (P s d t A : ℕ) → Agree table other P → FirstBlocker table P s d t A → FirstBlocker other P s d t A
-first-to table other P s d t A a f = record {
+first-to : (table other : Table) (P s d t ed A : ℕ) → Agree table other P → FirstBlocker table P s d t ed A → FirstBlocker other P s d t ed A
+first-to table other P s d t ed A a f = record {
   rows = wide table other P A a (f .rows);
-  is = (f .is .0, same-blocks table other P d t A a .0 (f .is .1));
+  is = (f .is .0, same-blocks table other P d t ed A a .0 (f .is .1));
   first = λ B hB q e.
       let h : B < 2 ^ table .rows = wide other table P B (agree-sym table other P a) hB in
-      f .first B h (q .0, same-blocks table other P d t B a .1 (q .1)) (same-earlier table other P B A a h (f .rows) .1 e);
+      f .first B h (q .0, same-blocks table other P d t ed B a .1 (q .1)) (same-earlier table other P B A a h (f .rows) .1 e);
 }
 
 -- and the first blocker is the same
-pub same-first-blocker : (table other : Table) (P s d t A : ℕ) → Agree table other P → FirstBlocker table P s d t A ↔ FirstBlocker other P s d t A
-same-first-blocker table other P s d t A a = (first-to table other P s d t A a, first-to other table P s d t A (agree-sym table other P a))
+pub same-first-blocker : (table other : Table) (P s d t ed A : ℕ) → Agree table other P → FirstBlocker table P s d t ed A ↔ FirstBlocker other P s d t ed A
+same-first-blocker table other P s d t ed A a = (first-to table other P s d t ed A a, first-to other table P s d t ed A (agree-sym table other P a))

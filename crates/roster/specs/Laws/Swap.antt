@@ -69,7 +69,7 @@ by-row u v Q qu qv q i = go (ℕ-discrete u i) (ℕ-discrete v i)
 
 -- ---- a list of crews for A with u in the place of v gives one for A
 
-module _ (table : Table) (P d t A u v : ℕ) (hA : A < 2 ^ table .rows) (hu : u < table .rows) (inA : Has A v) (outA : bit A u ≡ 0)
+module _ (table : Table) (P d t ed A u v : ℕ) (hA : A < 2 ^ table .rows) (hu : u < table .rows) (inA : Has A v) (outA : bit A u ≡ 0)
     (sub : Sub (held table P v) (held table P u)) where
   abbrev n : ℕ
   n = table .rows
@@ -80,7 +80,7 @@ module _ (table : Table) (P d t A u v : ℕ) (hA : A < 2 ^ table .rows) (hu : u 
   hv : v < n
   hv = bit-below A n v hA inA
 
-  module _ (cs : List ℕ) (k : CrewList table P d t (trade n A v u) cs) where
+  module _ (cs : List ℕ) (k : CrewList table P d t ed (trade n A v u) cs) where
     -- the j-th crew before and after
     abbrev old : ℕ → ℕ
     old j = getD cs j 0
@@ -107,7 +107,7 @@ module _ (table : Table) (P d t A u v : ℕ) (hA : A < 2 ^ table .rows) (hu : u 
         )
         go (no f) (no g) = (r, at j l .other r f g ∙ hr, hrp)
 
-    swap : CrewList table P d t A (map (swapped n v u) cs)
+    swap : CrewList table P d t ed A (map (swapped n v u) cs)
     swap = record {
       many = length-map cs (swapped n v u) ∙ k .many;
       rows = λ j l. at j l .rows;
@@ -121,10 +121,11 @@ module _ (table : Table) (P d t A u v : ℕ) (hA : A < 2 ^ table .rows) (hu : u 
           (λ i f g. omega (arith, at j l .other i f g, k .present j l i, bit-trade-other n A v u i hA hv f g));
       small = λ j l. omega (arith, at j l .size, k .small j l);
       whole = λ j l p hp. cover j l p (k .whole j l p hp);
+      enough = λ j l. omega (arith, at j l .size, k .enough j l);
     }
 
   -- if A blocks, so does A with u in the place of v
-  pub blocks-trade : Blocks table P d t A → Blocks table P d t (trade (table .rows) A v u)
+  pub blocks-trade : Blocks table P d t ed A → Blocks table P d t ed (trade (table .rows) A v u)
   blocks-trade b cs k = b (map (swapped n v u) cs) (swap cs k)
 
 module _ (table : Table) (P : ℕ) where
@@ -205,18 +206,18 @@ module _ (table : Table) (P : ℕ) where
 
   -- ---- the theorems
 
-  module _ (s d t : ℕ) where
+  module _ (s d t ed : ℕ) where
     -- a blocker of at most s rows stays one when a row gives place to one that outweighs it
     trade-blocker : (B u v : ℕ) → B < 2 ^ table .rows → u < table .rows → Has B v → bit B u ≡ 0 → Outweighs table P u v
-        → (ones B ≤ s) × Blocks table P d t B
-        → (ones (trade (table .rows) B v u) ≤ s) × Blocks table P d t (trade (table .rows) B v u)
+        → (ones B ≤ s) × Blocks table P d t ed B
+        → (ones (trade (table .rows) B v u) ≤ s) × Blocks table P d t ed (trade (table .rows) B v u)
     trade-blocker B u v hB lu iv ou o (few, b) = (
       omega (arith, ones-trade (table .rows) B v u hB (bit-below B (table .rows) v hB iv) iv ou),
-      blocks-trade table P d t B u v hB lu iv ou (o .0) b,
+      blocks-trade table P d t ed B u v hB lu iv ou (o .0) b,
     )
 
     -- the first blocker is worth trying
-    pub first-blocker-worth : (A : ℕ) → FirstBlocker table P s d t A → Worth table P A
+    pub first-blocker-worth : (A : ℕ) → FirstBlocker table P s d t ed A → Worth table P A
     first-blocker-worth A f =
         worth-of A (λ u v lu iv ou o.
         f .first (trade (table .rows) A v u) (trade-lt (table .rows) (table .rows) A v u (f .rows) lu)
@@ -224,22 +225,22 @@ module _ (table : Table) (P : ℕ) where
         (trade-earlier A u v (f .rows) iv ou (outweighs-rank table P u v lu o)))
 
     -- So the search that skips finds it: the first blocker is the first of the blockers that are worth trying.
-    pub first-tried : (A : ℕ) → FirstBlocker table P s d t A ↔ First table P (λ B. (ones B ≤ s) × Blocks table P d t B × Worth table P B) A
+    pub first-tried : (A : ℕ) → FirstBlocker table P s d t ed A ↔ First table P (λ B. (ones B ≤ s) × Blocks table P d t ed B × Worth table P B) A
     first-tried A = (to, from)
       where
-        to : FirstBlocker table P s d t A → First table P (λ B. (ones B ≤ s) × Blocks table P d t B × Worth table P B) A
+        to : FirstBlocker table P s d t ed A → First table P (λ B. (ones B ≤ s) × Blocks table P d t ed B × Worth table P B) A
         to f = record {
           rows = f .rows;
           is = (f .is .0, f .is .1, first-blocker-worth A f);
           first = λ B hB q. f .first B hB (q .0, q .1);
         }
 
-        from : First table P (λ B. (ones B ≤ s) × Blocks table P d t B × Worth table P B) A → FirstBlocker table P s d t A
+        from : First table P (λ B. (ones B ≤ s) × Blocks table P d t ed B × Worth table P B) A → FirstBlocker table P s d t ed A
         from f = record {
           rows = f .rows;
           is = (f .is .0, f .is .1);
           first = λ B hB q e.
-              none-of-worth (λ C. ((ones C ≤ s) × Blocks table P d t C) × Earlier table P C A)
+              none-of-worth (λ C. ((ones C ≤ s) × Blocks table P d t ed C) × Earlier table P C A)
               (λ C u v hC lu iv ou o r. (
                 trade-blocker C u v hC lu iv ou o (r .0),
                 earlier-trans table P (trade (table .rows) C v u) C A (trade-lt (table .rows) (table .rows) C v u hC lu) hC
@@ -250,8 +251,8 @@ module _ (table : Table) (P : ℕ) where
         }
 
     -- And if nothing that is worth trying blocks, nothing does: the policy holds.
-    pub none-worth-none : ((A : ℕ) → Absence table s A → Worth table P A → Blocks table P d t A → ⊥) → Holds table P s d t
+    pub none-worth-none : ((A : ℕ) → Absence table s A → Worth table P A → Blocks table P d t ed A → ⊥) → Holds table P s d t ed
     none-worth-none none A a b =
-        none-of-worth (λ B. (ones B ≤ s) × Blocks table P d t B) trade-blocker
+        none-of-worth (λ B. (ones B ≤ s) × Blocks table P d t ed B) trade-blocker
         (λ B hB w r. none B (record { rows = hB; few = r .0 }) w (r .1))
         (suc (weight A)) A (omega arith) (a .rows) (a .few, b)

@@ -9,14 +9,14 @@ use Rattle.sets.specs.Arrays.{tabulate}
 use Rattle.roster.specs.Limits.{rowLimit}
 use Rattle.roster.specs.declared.Policy.{Policy}
 use Rattle.book.specs.Layout.{permissionLimit, policyLimit}
-use Rattle.book.specs.Reading.{Kind, notAbove, codes, rowsOf, policies}
+use Rattle.book.specs.Reading.{Kind, notAbove, codes, rowsOf, policiesOf}
 use Rattle.book.specs.Inner.Steps.{countAmissIn}
 use Rattle.book.specs.declared.Fault.{Fault}
 use Rattle.book.specs.declared.Amiss.{Amiss}
 use Rattle.book.specs.declared.Row.{Row}
 use Rattle.book.specs.declared.Section.{Section}
 use Rattle.book.specs.declared.Section.the-variants.{Permissions, Rows, Policies}
-use Rattle.values.specs.Values.{nobody, unasked}
+use Rattle.values.specs.Values.{nobody, unasked, policyFor}
 use Rattle.values.specs.Writing.{firstOf}
 use Rattle.values.specs.declared.First.{First}
 use Rattle.values.specs.declared.First.the-variants as first
@@ -44,8 +44,12 @@ codeIn v i = getD (v .codes) i 0
 abbrev pub rowIn : Values → ℕ → Row
 rowIn v i = getD (v .rows) i nobody
 
+-- a policy as it stands in memory, and the one that is meant
+abbrev pub policyGiven : Values → ℕ → Policy
+policyGiven v i = getD (v .policies) i unasked
+
 abbrev pub policyIn : Values → ℕ → Policy
-policyIn v i = getD (v .policies) i unasked
+policyIn v i = policyFor (v .form) (policyGiven v i)
 
 -- the one before, which the first has not
 abbrev pub priorTo : {A : Type 0} → (ℕ → A) → ℕ → Option A
@@ -69,7 +73,7 @@ lookWith kind listed f i = kind .faults listed (priorTo f i) (f i)
 abbrev pub lookAt : Values → Section → ℕ → Amiss
 lookAt v Permissions = lookWith codes 0 (codeIn v)
 lookAt v Rows = lookWith (rowsOf (v .form)) (v .«code_count») (rowIn v)
-lookAt v Policies = lookWith policies (v .«code_count») (policyIn v)
+lookAt v Policies = lookWith (policiesOf (v .form)) (v .«code_count») (policyIn v)
 
 -- all looks at a section: at its count, then at its entries
 abbrev pub entryLooks : Values → Section → List Amiss

@@ -12,8 +12,8 @@ use lib.ListN.{length}
 use borrow.Author.Tests.{ltb-false}
 use Rattle.roster.specs.Laws.Rulings.{inside, policy-within}
 use Rattle.roster.specs.declared.Policy.{Policy}
-use Rattle.book.specs.Layout.{Contents, permissionLimit, codeFields, rowFields, policyFields, hasPersons, bytesOf, PolicyFits, Admitted}
-use Rattle.book.specs.Reading.{Kind, codes, rowsOf, policies}
+use Rattle.book.specs.Layout.{Contents, permissionLimit, codeFields, rowFields, policyFields, hasPersons, hasEditions, bytesOf, PolicyFits, Admitted}
+use Rattle.book.specs.Reading.{Kind, codes, rowsOf, policiesOf}
 use Rattle.book.specs.Laws.First.{not-amiss}
 use Rattle.book.specs.Laws.Sections.{Codec, Faultless}
 use Rattle.book.specs.Laws.Values.{code-codec, row-codec, policy-codec, each, RowFits, each-row-fits, codes-sound, rows-sound, policies-sound}
@@ -32,8 +32,8 @@ low listed few x h = lt-of-lt-of-le h (pow-mono few)
 
 policy-narrow : (listed : ℕ) (p : Policy) → PolicyFits listed p → Narrow p
 policy-narrow listed p f =
-    let w = policy-within _ _ _ _ _ (f .sound) in
-    (omega (arith, w .away), omega (arith, w .few), omega (arith, w .small))
+    let w = policy-within _ _ _ _ _ _ (f .sound) in
+    (omega (arith, w .away), omega (arith, w .few), omega (arith, w .small), omega (arith, w .edition .1))
 
 pub admitted-laidable : (v : Contents) → Admitted v → Laidable v
 admitted-laidable v a =
@@ -44,6 +44,7 @@ admitted-laidable v a =
         rows = each-row-fits (hasPersons (v .form)) 32 (v .rows) (a .staff) (a .persons) (a .own)
             (each (λ (row : Row). low listed (a .permissions) (row .holdings)) (v .rows) (a .holdings));
         tasks = each (λ (p : Policy) (f : PolicyFits listed p). low listed (a .permissions) (p .task) (f .task)) (v .policies) (a .sound);
+        editions = a .editions;
       };
       narrow = each (policy-narrow listed) (v .policies) (a .sound);
     }
@@ -62,13 +63,14 @@ none-admitted v t e =
     let listed = length (v .codes) in
     let one = sectionIn codes 0 (v .codes) in
     let persons = hasPersons (v .form) in
+    let editions = hasEditions (v .form) in
     let two = sectionIn (rowsOf (v .form)) listed (v .rows) in
-    let three = sectionIn policies listed (v .policies) in
+    let three = sectionIn (policiesOf (v .form)) listed (v .policies) in
     let first = neither _ _ (sym (first-append one (two ++ three)) ∙ e) in
     let second = neither _ _ (sym (first-append two three) ∙ first .1) in
     let c = section-none codes codeFields code-codec 0 (v .codes) (first .0) in
     let r = section-none (rowsOf (v .form)) (rowFields persons) (row-codec persons) listed (v .rows) (second .0) in
-    let p = section-none policies policyFields policy-codec listed (v .policies) (second .1) in
+    let p = section-none (policiesOf (v .form)) (policyFields editions) (policy-codec editions) listed (v .policies) (second .1) in
     let range = inside permissionLimit listed (c .0) in
     let held = rows-sound persons listed (v .rows) (r .1) in
     record {
@@ -83,13 +85,14 @@ none-admitted v t e =
       persons = each (λ (row : Row) (h : RowFits persons 32 row). h .person) (v .rows) (t .rows);
       own = each (λ (row : Row) (h : RowFits persons 32 row). h .own) (v .rows) (t .rows);
       holdings = held .1;
-      sound = policies-sound listed none (v .policies) (p .1);
+      sound = policies-sound editions listed none (v .policies) (p .1);
+      editions = t .editions;
     }
 
 -- by way of the reader, who finds no fault in the layout of admitted values
 pub admitted-none : (v : Contents) → Admitted v → faultIn v ≡ none
 admitted-none v a =
-    sym (as-in-the-reader v (admitted-laidable v a) (λ old many. omega (arith, a .permissions))) ∙ ap faultOf (layout-good v (bytesOf v) (record { admitted = a; bytes = refl }))
+    sym (as-in-the-reader v (admitted-laidable v a) (λ old. (λ many. omega (arith, a .permissions), λ many. omega (arith, a .permissions)))) ∙ ap faultOf (layout-good v (bytesOf v) (record { admitted = a; bytes = refl }))
 
 pub sound-iff-admitted : (v : Contents) → Typed v → (faultIn v ≡ none) ↔ Admitted v
 sound-iff-admitted v t = (none-admitted v t, admitted-none v)

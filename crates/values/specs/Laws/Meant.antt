@@ -7,15 +7,15 @@ use native.Mathlib.Omega.{arith}
 use lib.ListN.{length, getD}
 use Rattle.sets.specs.Arrays.{tabulate}
 use Rattle.sets.specs.Laws.Arrays.{length-tabulate, getD-tabulate, tabulated}
-use Rattle.book.specs.Layout.{Contents, hasPersons, rowFields, Each}
-use Rattle.book.specs.Reading.{rowWith}
+use Rattle.book.specs.Layout.{Contents, OwnEdition, hasPersons, hasEditions, rowFields, policyFields, Each}
+use Rattle.book.specs.Reading.{rowWith, policyWith}
 use Rattle.book.specs.Laws.Values.{RowFits}
 use Rattle.book.specs.declared.Form.{Form}
-use Rattle.book.specs.declared.Form.the-variants.{Old, Persons}
+use Rattle.book.specs.declared.Form.the-variants.{Old, Persons, Editions}
 use Rattle.book.specs.declared.Row.{Row}
 use Rattle.roster.specs.declared.Policy.{Policy}
 use Rattle.book.specs.Promises.{nothing}
-use Rattle.values.specs.Values.{nobody, unasked, rowFor, contentsFor, valuesFor, noValues}
+use Rattle.values.specs.Values.{nobody, unasked, rowFor, policyFor, contentsFor, valuesFor, noValues}
 use Rattle.values.specs.Promises.{Typed}
 use Rattle.values.specs.declared.Values.{Values}
 
@@ -29,7 +29,7 @@ unfolding contentsFor
 counted v = record {
   codes = length-tabulate (v .«code_count») (λ i. getD (v .codes) i 0);
   rows = length-tabulate (v .«row_count») (λ i. rowFor (v .form) (getD (v .rows) i nobody));
-  policies = length-tabulate (v .«policy_count») (λ i. getD (v .policies) i unasked);
+  policies = length-tabulate (v .«policy_count») (λ i. policyFor (v .form) (getD (v .policies) i unasked));
 }
 
 -- contents of one form are their lists
@@ -53,7 +53,8 @@ pub record SameFields (v w : Values) : Type 0 where
   pub code : (i : ℕ) → i < v .«code_count» → getD (v .codes) i 0 ≡ getD (w .codes) i 0
   pub row : (i : ℕ) → i < v .«row_count»
       → rowFields (hasPersons (v .form)) (getD (v .rows) i nobody) ≡ rowFields (hasPersons (v .form)) (getD (w .rows) i nobody)
-  pub policy : (i : ℕ) → i < v .«policy_count» → getD (v .policies) i unasked ≡ getD (w .policies) i unasked
+  pub policy : (i : ℕ) → i < v .«policy_count»
+      → policyFields (hasEditions (v .form)) (getD (v .policies) i unasked) ≡ policyFields (hasEditions (v .form)) (getD (w .policies) i unasked)
 
 -- tables of functions that are alike below n are equal
 table-same : {A : Type 0} (none : A) (n : ℕ) (f g : ℕ → A) → ((i : ℕ) → i < n → f i ≡ g i) → tabulate n f ≡ tabulate n g
@@ -67,7 +68,7 @@ bare-same v w s =
     (contents-of
     (table-same 0 (v .«code_count») _ _ (s .code))
     (table-same nobody (v .«row_count») _ _ (λ i l. ap (rowWith (hasPersons (v .form))) (s .row i l)))
-    (table-same unasked (v .«policy_count») _ _ (s .policy)))
+    (table-same unasked (v .«policy_count») _ _ (λ i l. ap (policyWith (hasEditions (v .form))) (s .policy i l))))
 
 -- ---- types
 
@@ -92,6 +93,12 @@ pub record Numbers (row : Row) : Type 0 where
 row-typed : (form : Form) (row : Row) → Numbers row → RowFits (hasPersons form) 32 (rowFor form row)
 row-typed Old row n = record { staff = n .staff; person = n .staff; own = refl; holdings = n .holdings }
 row-typed Persons row n = record { staff = n .staff; person = n .person; own = tt; holdings = n .holdings }
+row-typed Editions row n = record { staff = n .staff; person = n .person; own = tt; holdings = n .holdings }
+
+policy-own : (form : Form) (p : Policy) → OwnEdition (hasEditions form) (policyFor form p)
+policy-own Old p = refl
+policy-own Persons p = refl
+policy-own Editions p = tt
 
 -- what the types say of the arrays holds of the values that are meant
 pub typed : (v : Values) → Each (λ code. code < 2 ^ 16) (v .codes) → Each Numbers (v .rows) → Each (λ p. p .task < 2 ^ 32) (v .policies)
@@ -101,5 +108,8 @@ typed v codes rows tasks = record {
   codes = each-taken _ (v .«code_count») _ (at-any _ 0 (v .codes) codes (omega arith));
   rows = each-taken _ (v .«row_count») _ (λ i.
       row-typed (v .form) _ (at-any Numbers nobody (v .rows) rows (record { staff = omega arith; person = omega arith; holdings = omega arith }) i));
-  tasks = each-taken _ (v .«policy_count») _ (at-any _ unasked (v .policies) tasks (omega arith));
+  tasks = each-taken (λ p. p .task < 2 ^ 32) (v .«policy_count») (λ i. policyFor (v .form) (getD (v .policies) i unasked))
+      (at-any (λ p. p .task < 2 ^ 32) unasked (v .policies) tasks (omega arith));
+  editions = each-taken (OwnEdition (hasEditions (v .form))) (v .«policy_count») (λ i. policyFor (v .form) (getD (v .policies) i unasked))
+      (λ i. policy-own (v .form) (getD (v .policies) i unasked));
 }

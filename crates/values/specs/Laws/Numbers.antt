@@ -1,4 +1,4 @@
--- Which numbers values are refused with: 2 to 5, 12 to 18 and 20, always with place 0; 11 and 19, by which the reader tells that a book ends too
+-- Which numbers values are refused with: 2 to 5, 12 to 18, 20 and 25, always with place 0; 11 and 19, by which the reader tells that a book ends too
 -- soon or goes on too long, never come. Assumes nothing.
 use mathlib.Core.Path.{_≡_, sym, ap, subst}
 use mathlib.Core.Logic.{inl, inr}
@@ -9,7 +9,7 @@ use native.Mathlib.Omega.{arith}
 use lib.ListN.{length}
 use Rattle.book.specs.Layout.{Contents}
 use Rattle.book.specs.Faults.{faultNumber, EntryNumber}
-use Rattle.book.specs.Reading.{Kind, amissIf, codes, rowsOf, policies}
+use Rattle.book.specs.Reading.{Kind, amissIf, codes, rowsOf, policiesOf}
 use Rattle.book.specs.Laws.Refused.{Told, told-if, told-code, told-row, told-policy}
 use Rattle.book.specs.declared.Fault.{Fault}
 use Rattle.book.specs.declared.Amiss.{Amiss}
@@ -53,19 +53,19 @@ module _ {A : Type 0} (kind : Kind A) (count : EntryNumber (faultNumber (kind .c
       told-head (amissIf (kind .outOfRange (length l)) (kind .countFault) 0 Nothing) (valueLooks kind listed none l)
       (told-if EntryNumber (kind .outOfRange (length l)) (kind .countFault) 0 Nothing count tt) (values-told none l)
 
--- a fault of values is told by one of 2 to 5 or of 12 to 18
+-- a fault of values is told by one of 2 to 5 or of 12 to 18, or by 25
 pub fault-number : (v : Contents) (f : Fault) → faultIn v ≡ some f → EntryNumber (faultNumber f)
 fault-number v f e =
     let listed = length (v .codes) in
     subst ToldIn e
-    (told-append (sectionIn codes 0 (v .codes)) _ (section-told codes (inr (omega arith, omega arith)) told-code 0 (v .codes))
-    (told-append (sectionIn (rowsOf (v .form)) listed (v .rows)) (sectionIn policies listed (v .policies))
-    (section-told (rowsOf (v .form)) (inr (omega arith, omega arith)) (told-row (v .form)) listed (v .rows))
-    (section-told policies (inr (omega arith, omega arith)) told-policy listed (v .policies))))
+    (told-append (sectionIn codes 0 (v .codes)) _ (section-told codes (inr (inl (omega arith, omega arith))) told-code 0 (v .codes))
+    (told-append (sectionIn (rowsOf (v .form)) listed (v .rows)) (sectionIn (policiesOf (v .form)) listed (v .policies))
+    (section-told (rowsOf (v .form)) (inr (inl (omega arith, omega arith))) (told-row (v .form)) listed (v .rows))
+    (section-told (policiesOf (v .form)) (inr (inl (omega arith, omega arith))) (told-policy (v .form)) listed (v .policies))))
 
 -- ---- of a refusal
 
--- values are refused with one of 2 to 5, of 12 to 18, or 20, and with place 0
+-- values are refused with one of 2 to 5, of 12 to 18, 20 or 25, and with place 0
 pub numbers : (v : Contents) (old new : List ℕ) (u : Unwritten) (at : ℕ) → Writes v old new (Refused u at)
     → WriterNumber (unwrittenNumber u) × (at ≡ 0)
 numbers v old new u at w = go (which v old)
@@ -88,5 +88,6 @@ never-short-never-excess v old new u at w = go (numbers v old new u at w .0)
   where
     go : WriterNumber (unwrittenNumber u) → (unwrittenNumber u ≡ 11 → ⊥) × (unwrittenNumber u ≡ 19 → ⊥)
     go (inl (inl h)) = (λ e. omega (arith, h .1), λ e. omega (arith, h .1))
-    go (inl (inr h)) = (λ e. omega (arith, h .0), λ e. omega (arith, h .1))
+    go (inl (inr (inl h))) = (λ e. omega (arith, h .0), λ e. omega (arith, h .1))
+    go (inl (inr (inr h))) = (λ e. omega arith, λ e. omega arith)
     go (inr h) = (λ e. omega arith, λ e. omega arith)

@@ -6,7 +6,8 @@ use native.Mathlib.Omega.{arith}
 use lib.ListN.{length, getD, take, drop}
 use Rattle.sets.specs.Arrays.{tabulate}
 use Rattle.roster.specs.Limits.{rowLimit}
-use Rattle.book.specs.Layout.{Contents, hasPersons, permissionLimit, policyLimit, bytesOf, Own, Each, Admitted}
+use Rattle.roster.specs.declared.Policy.{Policy}
+use Rattle.book.specs.Layout.{Contents, hasPersons, hasEditions, permissionLimit, policyLimit, bytesOf, Own, OwnEdition, Each, Admitted}
 use Rattle.book.specs.Reading.{formOf, readOf}
 use Rattle.book.specs.Parts.{contentsOf}
 use Rattle.book.specs.Promises.{Bytes}
@@ -15,10 +16,10 @@ use Rattle.book.specs.declared.Fault.{Fault}
 use Rattle.book.specs.declared.Reading.{Reading}
 use Rattle.book.specs.declared.Reading.the-variants as read
 use Rattle.book.specs.declared.Form.{Form}
-use Rattle.book.specs.declared.Form.the-variants.{Old, Persons}
+use Rattle.book.specs.declared.Form.the-variants.{Old, Persons, Editions}
 use Rattle.book.specs.declared.Row.{Row}
 use Rattle.book.specs.declared.Starts.{Starts}
-use Rattle.values.specs.Values.{nobody, unasked, rowFor, contentsFor, valuesFor, noValues, contentsBy, valuesOf}
+use Rattle.values.specs.Values.{nobody, unasked, rowFor, policyFor, contentsFor, valuesFor, noValues, contentsBy, valuesOf}
 use Rattle.values.specs.Writing.{Writes}
 use Rattle.values.specs.Promises.{Typed}
 use Rattle.values.specs.Laws.Admitted.{sound-iff-admitted, admitted-none}
@@ -41,21 +42,30 @@ out-again {A} none (suc n) (x ∷ l) h = ap (λ (m : List A). x ∷ m) (out-agai
 own-row : (form : Form) (row : Row) → Own (hasPersons form) row → rowFor form row ≡ row
 own-row Old row o = rw o
 own-row Persons row o = refl
+own-row Editions row o = refl
 
-rows-again : (form : Form) (n : ℕ) (l : List Row) → length l ≤ n → Each (Own (hasPersons form)) l
-    → tabulate (length l) (λ i. rowFor form (getD (tabulate n (λ j. getD l j nobody)) i nobody)) ≡ l
+-- and so are such policies
+own-policy : (form : Form) (p : Policy) → OwnEdition (hasEditions form) p → policyFor form p ≡ p
+own-policy Old p o = rw o
+own-policy Persons p o = rw o
+own-policy Editions p o = refl
+
+-- the same of what is meant by each, where that is what was put in
+meant-again : {A : Type 0} (none : A) (meant : A → A) (P : A → Type 0) → ((x : A) → P x → meant x ≡ x) → (n : ℕ) (l : List A) → length l ≤ n → Each P l
+    → tabulate (length l) (λ i. meant (getD (tabulate n (λ j. getD l j none)) i none)) ≡ l
 unfolding tabulate Each
-rows-again form n [] h o = refl
-rows-again form zero (x ∷ l) h o = absurd (omega arith)
-rows-again form (suc n) (x ∷ l) h o = ap₂ (λ (y : Row) (m : List Row). y ∷ m) (own-row form x (o .0)) (rows-again form n l (omega arith) (o .1))
+meant-again none meant P kept n [] h o = refl
+meant-again none meant P kept zero (x ∷ l) h o = absurd (omega arith)
+meant-again {A} none meant P kept (suc n) (x ∷ l) h o =
+    ap₂ (λ (y : A) (m : List A). y ∷ m) (kept x (o .0)) (meant-again none meant P kept n l (omega arith) (o .1))
 
 -- values that a book may have are all there in their arrays
 pub values-for : (v : Contents) → Admitted v → contentsFor (valuesFor v) ≡ v
 unfolding contentsFor valuesFor
 values-for v a =
     contents-of (out-again 0 permissionLimit (v .codes) (a .permissions))
-    (rows-again (v .form) rowLimit (v .rows) (a .rows) (a .own))
-    (out-again unasked policyLimit (v .policies) (a .policies))
+    (meant-again nobody (rowFor (v .form)) (Own (hasPersons (v .form))) (own-row (v .form)) rowLimit (v .rows) (a .rows) (a .own))
+    (meant-again unasked (policyFor (v .form)) (OwnEdition (hasEditions (v .form))) (own-policy (v .form)) policyLimit (v .policies) (a .policies) (a .editions))
 
 -- ---- the values of a book
 

@@ -13,7 +13,7 @@ use lib.ListN.{length, take, drop, length-append, length-drop}
 use lib.Seq.{take-append-seam}
 use borrow.Author.Tests.{lt-ltb, le-ltb}
 use Rattle.book.specs.Layout.{Contents, lead, bytesOf, LayoutOf}
-use Rattle.book.specs.Reading.{width, rowsOf, readOf}
+use Rattle.book.specs.Reading.{width, rowsOf, policiesOf, readOf}
 use Rattle.book.specs.Parts.{contentsOf}
 use Rattle.book.specs.Promises.{Bytes, startsFor}
 use Rattle.book.specs.Laws.Books.{layout-good, layout-values, good-layout}
@@ -150,7 +150,7 @@ the-one-book v old new n w book s bytes good e =
 
 -- "answers its length"
 pub length-is : (v : Contents) (old new : List ℕ) (n : ℕ) → Typed v → Writes v old new (Written n)
-    → n ≡ length (lead (v .form)) + 3 + 2 * length (v .codes) + width (rowsOf (v .form)) * length (v .rows) + 7 * length (v .policies)
+    → n ≡ length (lead (v .form)) + 3 + 2 * length (v .codes) + width (rowsOf (v .form)) * length (v .rows) + width (policiesOf (v .form)) * length (v .policies)
 length-is v old new n t w =
     let h = is-written v old new n w in
     h .long ∙ layout-length v (sound-iff-admitted v t .0 (h .sound))

@@ -1,4 +1,4 @@
--- "Refusals: 12 to 18 and 2 to 5 as in the reader, in reading order": what is looked at of values is what the reader looks at of their layout, so
+-- "Refusals: 12 to 18 and 2 to 5 as in the reader, in reading order", and 25: what is looked at of values is what the reader looks at of their layout, so
 -- the fault is the same. Assumes nothing.
 use mathlib.Core.Path.{_≡_, refl, sym, ap, _∙_}
 use mathlib.Core.Bool.{Bool, true, false}
@@ -11,11 +11,11 @@ use lib.ListN.{length, drop, length-append}
 use lib.Dec.{eqb}
 use borrow.Author.Tests.{le-ltb, lt-ltb, ne-eqb}
 use Rattle.roster.specs.declared.Policy.{Policy}
-use Rattle.book.specs.Layout.{Contents, Each, bytesOf, section, joined, codeWidths, codeFields, rowWidths, rowFields, policyWidths, policyFields, hasPersons, lead, permissionLimit}
-use Rattle.book.specs.Reading.{Kind, cutPlace, amissIf, faultIf, placed, width, entryAt, prior, countLook, entryLook, inTurn, sectionLooks, past, formOf, front, listedIn, endLook, looks, looksBy, looksFromRows, looksFromPolicies, codes, rowsOf, policies, firstFault, startsOf, readOf}
+use Rattle.book.specs.Layout.{Contents, Each, bytesOf, section, joined, codeWidths, codeFields, rowWidths, rowFields, policyWidths, policyFields, OwnEdition, hasPersons, hasEditions, lead, permissionLimit}
+use Rattle.book.specs.Reading.{Kind, cutPlace, amissIf, faultIf, placed, width, entryAt, prior, countLook, entryLook, inTurn, sectionLooks, past, formOf, front, listedIn, endLook, looks, looksBy, looksFromRows, looksFromPolicies, codes, rowsOf, policies, policiesOf, firstFault, startsOf, readOf}
 use Rattle.book.specs.Laws.Codec.{Fit, after, head-at, tail-at, fields-length, fields-read}
 use Rattle.book.specs.Laws.Sections.{Codec, bytesFor, Fits, joined-length, section-read}
-use Rattle.book.specs.Laws.Values.{code-codec, row-codec, policy-codec, each, each-both, code-fits, row-fits}
+use Rattle.book.specs.Laws.Values.{code-codec, row-codec, policy-codec, each, each-both, code-fits, row-fits, edition-fits, own-edition}
 use Rattle.book.specs.Laws.Books.{rowsAt, policiesAt, by-lead, lead-front}
 use Rattle.book.specs.declared.Form.{Form}
 use Rattle.book.specs.Faults.{faultOf}
@@ -53,9 +53,11 @@ seen-count false f at = refl
 
 -- ---- values that have a layout fit their fields
 
-policy-goes : (p : Policy) → (p .task < 2 ^ 32) × Narrow p → Fits policies policyFields policy-codec p
-unfolding Fit policy-codec
-policy-goes p h = ((h .0, (omega (arith, h .1 .0), (omega (arith, h .1 .1), (omega (arith, h .1 .2), tt)))), tt)
+policy-goes : (editions : Bool) (p : Policy) → ((p .task < 2 ^ 32) × OwnEdition editions p) × Narrow p
+    → Fits (policies editions) (policyFields editions) (policy-codec editions) p
+unfolding Fit
+policy-goes editions p ((task, own), (away, crews, size, edition)) =
+    ((task, (omega (arith, away), (omega (arith, crews), (omega (arith, size), edition-fits editions p edition)))), own-edition editions p own)
 
 -- ---- what is looked at
 
@@ -115,12 +117,14 @@ by-form-looks v f =
     let book = bytesOf v in
     let form = v .form in
     let persons = hasPersons form in
+    let editions = hasEditions form in
     let codesFit = each code-fits (v .codes) (f .typed .codes) in
     let rowsFit = each (row-fits persons 32 (omega arith)) (v .rows) (f .typed .rows) in
-    let policiesFit = each policy-goes (v .policies) (each-both _ _ (v .policies) (f .typed .tasks) (f .narrow)) in
+    let policiesFit = each (policy-goes editions) (v .policies)
+    (each-both _ _ (v .policies) (each-both _ _ (v .policies) (f .typed .tasks) (f .typed .editions)) (f .narrow)) in
     let sec1 = section codeWidths codeFields (v .codes) in
     let sec2 = section (rowWidths persons) (rowFields persons) (v .rows) in
-    let sec3 = section policyWidths policyFields (v .policies) in
+    let sec3 = section (policyWidths editions) (policyFields editions) (v .policies) in
     let begins = lead-front form in
     let first : front form ≡ 0 + length (lead form) = omega arith in
     let after-lead : drop (front form) book ≡ sec1 ++ (sec2 ++ sec3) =
@@ -128,7 +132,7 @@ by-form-looks v f =
     let listed = listedIn form book in
     let one = section-read codes codeFields code-codec (v .codes) book (front form) (sec2 ++ sec3) codesFit after-lead in
     let two = section-read (rowsOf form) (rowFields persons) (row-codec persons) (v .rows) book (rowsAt form book) sec3 rowsFit (one .left) in
-    let three = section-read policies policyFields policy-codec (v .policies) book (policiesAt form book) [] policiesFit (two .left ∙ sym (append-nil sec3)) in
+    let three = section-read (policiesOf form) (policyFields editions) (policy-codec editions) (v .policies) book (policiesAt form book) [] policiesFit (two .left ∙ sym (append-nil sec3)) in
     let lead-long = length-append (lead form) (sec1 ++ (sec2 ++ sec3)) in
     let long : length book ≡ length (lead form) + (length sec1 + (length sec2 + length sec3)) =
     omega (arith, lead-long, length-append sec1 (sec2 ++ sec3), length-append sec2 sec3) in
@@ -137,19 +141,19 @@ by-form-looks v f =
     let end3 = three .ends in
     let look1 = section-looks codes codeFields code-codec 0 (v .codes) book (front form) (sec2 ++ sec3) codesFit after-lead (omega arith) in
     let look2 = section-looks (rowsOf form) (rowFields persons) (row-codec persons) listed (v .rows) book (rowsAt form book) sec3 rowsFit (one .left) (omega arith) in
-    let look3 = section-looks policies policyFields policy-codec listed (v .policies) book (policiesAt form book) [] policiesFit (two .left ∙ sym (append-nil sec3)) (omega arith) in
-    let end = le-ltb (past policies book (policiesAt form book)) (length book) (omega arith) in
+    let look3 = section-looks (policiesOf form) (policyFields editions) (policy-codec editions) listed (v .policies) book (policiesAt form book) [] policiesFit (two .left ∙ sym (append-nil sec3)) (omega arith) in
+    let end = le-ltb (past (policiesOf form) book (policiesAt form book)) (length book) (omega arith) in
     let in1 = sectionIn codes 0 (v .codes) in
     let in2 = sectionIn (rowsOf form) (length (v .codes)) (v .rows) in
-    let in3 = sectionIn policies (length (v .codes)) (v .policies) in
+    let in3 = sectionIn (policiesOf form) (length (v .codes)) (v .policies) in
     let last = amiss.Nothing ∷ [] in
     map-append seen (sectionLooks codes book 0 (front form)) (looksFromRows form book (rowsAt form book))
     ∙ joins look1 (
     map-append seen (sectionLooks (rowsOf form) book listed (rowsAt form book)) (looksFromPolicies form book (policiesAt form book))
     ∙ joins (look2 ∙ ap (λ (n : ℕ). map faultFrom (sectionIn (rowsOf form) n (v .rows))) (one .count)) (
-    map-append seen (sectionLooks policies book listed (policiesAt form book)) (endLook book (past policies book (policiesAt form book)) ∷ [])
-    ∙ joins (look3 ∙ ap (λ (n : ℕ). map faultFrom (sectionIn policies n (v .policies))) (one .count))
-    (ap (λ (b : Bool). seen (faultIf b fault.Excess (past policies book (policiesAt form book)) Sound) ∷ []) end)))
+    map-append seen (sectionLooks (policiesOf form) book listed (policiesAt form book)) (endLook book (past (policiesOf form) book (policiesAt form book)) ∷ [])
+    ∙ joins (look3 ∙ ap (λ (n : ℕ). map faultFrom (sectionIn (policiesOf form) n (v .policies))) (one .count))
+    (ap (λ (b : Bool). seen (faultIf b fault.Excess (past (policiesOf form) book (policiesAt form book)) Sound) ∷ []) end)))
     ∙ sym (map-append faultFrom in1 (in2 ++ (in3 ++ last))
     ∙ ap (λ (l : List (Option Fault)). map faultFrom in1 ++ l) (map-append faultFrom in2 (in3 ++ last)
     ∙ ap (λ (l : List (Option Fault)). map faultFrom in2 ++ l) (map-append faultFrom in3 last)))
@@ -186,7 +190,7 @@ many-codes v many =
     let some-codes : eqb (length (v .codes)) 0 ≡ false = ne-eqb (length (v .codes)) 0 (λ e. omega arith) in
     rw (some-codes, lt-ltb permissionLimit (length (v .codes)) many)
 
--- "12 to 18 and 2 to 5 as in the reader, in reading order": the first fault of the values is the one that the reader finds in their layout
+-- "12 to 18 and 2 to 5 as in the reader, in reading order", and 25: the first fault of the values is the one that the reader finds in their layout
 pub as-in-the-reader : (v : Contents) → Laidable v → TellsForm v → faultOf (readOf (bytesOf v)) ≡ faultIn v
 unfolding readOf
 as-in-the-reader v f n =

@@ -1,4 +1,4 @@
--- The numbers that stand there are the row's fields, in either form. Assumes nothing.
+-- The numbers that stand there are the row's fields, in every form. Assumes nothing.
 use borrow.Author.Needs.{needs}
 use mathlib.Core.Path.{_≡_, sym, ap, _∙_}
 use mathlib.Core.List.{List}
@@ -47,6 +47,17 @@ add-four-2 c =
 four-requires-3 : tie.Need-four-requires-3
 four-requires-3 c κs = search needs
 
+enum-told-3 : tie.Need-enum-told-3
+enum-told-3 c = search needs
+
+add-four-3 : tie.Need-add-four-3
+add-four-3 c =
+    let s = c .before .before .before .before .before in
+    omega (arith, ap (λ (f : Form). width (rowsOf f)) (c .enum-told3 .given .1), s .pre)
+
+four-requires-4 : tie.Need-four-requires-4
+four-requires-4 c κs = search needs
+
 returns : tie.Need-returns
 returns c =
     let f = c .before .before in
@@ -62,6 +73,14 @@ returns-2 c =
     new-row (a .book .now) (a .at) (f .before .four .ensures) (f .four2 .ensures) (c .four3 .ensures)
     ∙ ap (λ (form : Form). entryAt (rowsOf form) (a .book .now) (a .at)) (sym (t .enum-told2 .given .1))
 
+returns-3 : tie.Need-returns-3
+returns-3 c =
+    let t = c .before in
+    let f = t .before .before in
+    let a = f .before .before .before .args in
+    new-row (a .book .now) (a .at) (f .before .four .ensures) (f .four2 .ensures) (c .four4 .ensures)
+    ∙ ap (λ (form : Form). entryAt (rowsOf form) (a .book .now) (a .at)) (sym (t .enum-told3 .given .1))
+
 pub row-from-spec : {M : Type 1} → statement M
 row-from-spec =
     tie.close
@@ -73,5 +92,9 @@ row-from-spec =
     enum-told-2
     add-four-2
     four-requires-3
+    enum-told-3
+    add-four-3
+    four-requires-4
     returns
-    returns-2)
+    returns-2
+    returns-3)

@@ -1,4 +1,4 @@
--- By whether something of the task is missing. Assumes nothing.
+-- By whether the crew can be closed. Assumes nothing.
 use mathlib.Core.Path.{sym, ap, _∙_}
 use native.Mathlib.Omega.{arith}
 use borrow.Author.Needs.{needs}
@@ -8,26 +8,26 @@ use Rattle.crews.specs.Laws.Steps.{shut, short}
 use Rattle.crews.proofs.Filling.settled.Statement.{statement}
 use Rattle.crews.proofs.Filling.settled.Tie as tie
 
-missing-requires : tie.Need-missing-requires
-missing-requires c κs = search needs
+closes-requires : tie.Need-closes-requires
+closes-requires c κs = search needs
 
 close-requires : tie.Need-close-requires
 unfolding closeOf
 close-requires c κs =
-    let f = c .before .before .args .self in
-    let e = ap (λ (g : Filling). g .closed) (shut (c .before .before .args .task) f (sym (c .before .missing .ensures) ∙ c .if1 .taken)) in
+    let a = c .before .before .args in
+    let e = ap (λ (g : Filling). g .closed) (shut (a .task) (a .least) (a .self) (sym (c .before .closes .ensures) ∙ c .if1 .taken)) in
     omega (arith, e, c .before .before .pre)
 
 returns : tie.Need-returns
 returns c =
-    let f = c .before .before .before .args .self in
+    let a = c .before .before .before .args in
     c .close .ensures
-    ∙ sym (shut (c .before .before .before .args .task) f (sym (c .before .before .missing .ensures) ∙ c .before .if1 .taken))
+    ∙ sym (shut (a .task) (a .least) (a .self) (sym (c .before .before .closes .ensures) ∙ c .before .if1 .taken))
 
 returns-2 : tie.Need-returns-2
 returns-2 c =
-    let f = c .before .before .args .self in
-    sym (short (c .before .before .args .task) f (λ z. c .if1 .left (c .before .missing .ensures ∙ z)))
+    let a = c .before .before .args in
+    sym (short (a .task) (a .least) (a .self) (sym (c .before .closes .ensures) ∙ c .if1 .left))
 
 pub settled-spec : {M : Type 1} → statement M
-settled-spec = tie.close (tie.spec missing-requires close-requires returns returns-2)
+settled-spec = tie.close (tie.spec closes-requires close-requires returns returns-2)

@@ -6,8 +6,8 @@ use borrow.Author.Needs.{needs}
 use Rattle.roster.proofs.Policy.new.Statement.{statement}
 use Rattle.roster.proofs.Policy.new.Tie as tie
 
-policy-ruling-requires : tie.Need-policy-ruling-requires
-policy-ruling-requires c κs = search needs
+first-fault-requires : tie.Need-first-fault-requires
+first-fault-requires c κs = search needs
 
 enum-told : tie.Need-enum-told
 enum-told c = search needs
@@ -19,20 +19,20 @@ returns : tie.Need-returns
 returns c =
     let p = c .before .before in
     let a = p .before .args in (
-      ap (λ (r : Ruling). madeBy r (record { task = a .task; away = a .away; crews = a .crews; size = a .size }))
-          (sym (c .enum-told .given .1) ∙ p .policy-ruling .ensures),
-      (refl, refl, refl, refl),
+      ap (λ (r : Ruling). madeBy r (record { task = a .task; away = a .away; crews = a .crews; size = a .size; edition = a .edition }))
+          (sym (c .enum-told .given .1) ∙ p .first-fault .ensures),
+      ((refl, refl, refl, refl), refl),
     )
 
 returns-2 : tie.Need-returns-2
 returns-2 c =
     let p = c .before .before .before in
     let a = p .before .args in (
-      ap (λ (r : Ruling). madeBy r (record { task = a .task; away = a .away; crews = a .crews; size = a .size }))
-          (sym (c .before .refusal .given .1) ∙ p .policy-ruling .ensures),
-      (refl, refl, refl, refl),
+      ap (λ (r : Ruling). madeBy r (record { task = a .task; away = a .away; crews = a .crews; size = a .size; edition = a .edition }))
+          (sym (c .before .refusal .given .1) ∙ p .first-fault .ensures),
+      ((refl, refl, refl, refl), refl),
     )
 
 pub new-spec : {M : Type 1} → statement M
 new-spec =
-    tie.close (tie.spec policy-ruling-requires enum-told enum-known-refusal returns returns-2)
+    tie.close (tie.spec first-fault-requires enum-told enum-known-refusal returns returns-2)

@@ -5,10 +5,10 @@ use Rattle.trial.proofs.family.drawn.Statement.{statement}
 use Rattle.trial.proofs.family.drawn.Tie as tie
 
 abbrev Inv-loop : tie.InvT-loop
-Inv-loop index a₀ i₀ a i = i ≤ 6000
+Inv-loop index a₀ i₀ a i = i ≤ 12000
 
 abbrev μ-loop : tie.MeasureT-loop
-μ-loop index a₀ i₀ a i = 6000 - i
+μ-loop index a₀ i₀ a i = 12000 - i
 
 pub drawn-spec : {M : Type 1} → statement M
 drawn-spec =

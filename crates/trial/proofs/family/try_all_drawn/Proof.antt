@@ -5,10 +5,10 @@ use Rattle.trial.proofs.family.try_all_drawn.Statement.{statement}
 use Rattle.trial.proofs.family.try_all_drawn.Tie as tie
 
 abbrev Inv-loop : tie.InvT-loop
-Inv-loop now₀ a₀ i₀ now a i = i ≤ 6000
+Inv-loop now₀ a₀ i₀ now a i = i ≤ 12000
 
 abbrev μ-loop : tie.MeasureT-loop
-μ-loop now₀ a₀ i₀ now a i = 6000 - i
+μ-loop now₀ a₀ i₀ now a i = 12000 - i
 
 pub try-all-drawn-spec : {M : Type 1} → statement M
 try-all-drawn-spec =

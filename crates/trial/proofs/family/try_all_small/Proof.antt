@@ -5,10 +5,10 @@ use Rattle.trial.proofs.family.try_all_small.Statement.{statement}
 use Rattle.trial.proofs.family.try_all_small.Tie as tie
 
 abbrev Inv-loop : tie.InvT-loop
-Inv-loop now₀ number₀ now number = number ≤ 229376
+Inv-loop now₀ number₀ now number = number ≤ 458752
 
 abbrev μ-loop : tie.MeasureT-loop
-μ-loop now₀ number₀ now number = 229376 - number
+μ-loop now₀ number₀ now number = 458752 - number
 
 pub try-all-small-spec : {M : Type 1} → statement M
 try-all-small-spec =

@@ -1,6 +1,7 @@
 -- The section says what is looked at. Assumes nothing.
 use borrow.Author.Needs.{needs}
 use mathlib.Core.Path.{sym, ap, _∙_}
+use mathlib.Core.Bool.{true}
 use mathlib.Core.Option.{none}
 use Rattle.book.specs.Reading.{policies}
 use Rattle.book.specs.declared.Section.{Section}
@@ -44,7 +45,7 @@ returns-3 : tie.Need-returns-3
 returns-3 c =
     let a = c .before .before .before .before .args in
     c .policy-look .ensures
-    ∙ ap (policies .faults (a .values .«code_count») none) (c .before .policy-in .ensures)
+    ∙ ap (policies true .faults (a .values .«code_count») none) (c .before .policy-in .ensures)
     ∙ ap (λ (s : Section). lookAt (a .values) s (a .i)) (sym (c .before .before .enum-told3 .given .1))
 
 pub look-value-spec : {M : Type 1} → statement M

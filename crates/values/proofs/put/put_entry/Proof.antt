@@ -4,7 +4,7 @@ use mathlib.Core.Path.{_≡_, sym, ap, _∙_}
 use mathlib.Core.List.{append-nil}
 use Prim.Native.Nat.{ℕ}
 use Rattle.roster.specs.declared.Policy.{Policy}
-use Rattle.book.specs.Layout.{littleEndian, fieldBytes, codeWidths, codeFields, rowWidths, rowFields, policyWidths, policyFields, hasPersons}
+use Rattle.book.specs.Layout.{littleEndian, fieldBytes, codeWidths, codeFields, rowWidths, rowFields, policyWidths, policyFields, hasPersons, hasEditions}
 use Rattle.book.specs.declared.Row.{Row}
 use Rattle.book.specs.declared.Section.{Section}
 use Rattle.text.specs.Laws.Appends.{read-as}
@@ -84,7 +84,7 @@ returns-3 c =
     let t = put .before .before .before in
     let a = t .before .before .before .args in
     read-as
-    (ap (λ (p : Policy). fieldBytes policyWidths (policyFields p)) (put .before .policy-in .ensures)
+    (ap (λ (p : Policy). fieldBytes (policyWidths (hasEditions (a .values .form))) (policyFields (hasEditions (a .values .form)) p)) (put .before .policy-in .ensures)
     ∙ ap (λ (s : Section). entryBytes (a .values) s (a .i)) (sym (t .enum-told3 .given .1)))
     (put .put-policy .ensures)
 
