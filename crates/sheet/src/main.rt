@@ -63,7 +63,7 @@ fn write(said: Said, out: &[u8]) -> bool
 
 fn main() {
     let mut book = [0u8; lines::ENOUGH];
-    let input = input::read_book(&mut book);
+    let input = input::read_all(&mut book);
     let mut out = [0u8; lines::LONGEST];
     let said = answer(&book, input, &mut out);
     if !write(said, &out) {
