@@ -39,7 +39,11 @@ fn of_table(out: &mut [u8], at: usize, what: What) -> usize {
             at,
             b"the policies are missing: after the rows an empty line has to follow, and a heading that begins with s, d and t",
         ),
-        What::NotUnderstood => text::word(out, at, b"this is not understood as the table of a book"),
+        What::NotUnderstood => text::word(
+            out,
+            at,
+            b"this is not understood as the table of a book",
+        ),
         _ => of_codes(out, at, what),
     }
 }
@@ -113,16 +117,28 @@ fn of_columns(out: &mut [u8], at: usize, what: What) -> usize {
             at,
             b"a permission is missing that the heading of the rows has",
         ),
-        What::ThirdHeading => text::word(out, at, b"nothing can follow the policies behind an empty line"),
+        What::ThirdHeading => text::word(
+            out,
+            at,
+            b"nothing can follow the policies behind an empty line",
+        ),
         _ => of_policy(out, at, what),
     }
 }
 
 fn of_policy(out: &mut [u8], at: usize, what: What) -> usize {
     match what {
-        What::Away => text::word(out, at, b"s, how many may be away, has to be a number of 0 to 64"),
+        What::Away => text::word(
+            out,
+            at,
+            b"s, how many may be away, has to be a number of 0 to 64",
+        ),
         What::Crews => text::word(out, at, b"d, how many crews, has to be a number of 1 to 8"),
-        What::Size => text::word(out, at, b"t, how many to a crew, has to be a number of 1 to 64"),
+        What::Size => text::word(
+            out,
+            at,
+            b"t, how many to a crew, has to be a number of 1 to 64",
+        ),
         What::Edition => text::word(out, at, b"the edition has to be 1 or 2"),
         What::NothingAsked => text::word(
             out,

@@ -65,7 +65,7 @@ same-length c = search needs
 returns : tie.Need-returns
 returns c =
     let m = c .before .before .before .before .before in
-    complains _ _ _ _ _ (m .match .keys2) (all-said unreadable (omega (arith, m .before .pre .1)) (c .before .before .complaint .ensures .0))
+    complains _ _ _ _ _ (m .match .keys2) (all-said unreadable (omega (arith, m .before .before .before .pre .1)) (c .before .before .complaint .ensures .0))
 
 slice-aggregate-sheet : tie.Need-slice-aggregate-sheet
 slice-aggregate-sheet c = sym (length-take-le _ _ (size-fits (c .before .before)))

@@ -10,6 +10,9 @@ use Rattle.sheet.proofs.main.Tie as tie
 long : longest ≤ length {A = ℕ} (replicate longest 0)
 long = omega (arith, length-replicate {A = ℕ} longest 0)
 
+slice-aggregate-read-all : tie.Need-slice-aggregate-read-all
+slice-aggregate-read-all c = search needs
+
 read-all-requires : tie.Need-read-all-requires
 read-all-requires c κs = search needs
 
@@ -20,25 +23,28 @@ slice-aggregate-answer-2 : tie.Need-slice-aggregate-answer-2
 slice-aggregate-answer-2 c = search needs
 
 answer-requires : tie.Need-answer-requires
-answer-requires c κs = (c .before .before .read-all .ensures .0, long)
+answer-requires c κs = (c .before .before .before .read-all .ensures .0, long)
 
-slice-aggregate-write : tie.Need-slice-aggregate-write
-slice-aggregate-write c = search needs
+slice-aggregate-written : tie.Need-slice-aggregate-written
+slice-aggregate-written c = search needs
 
-write-requires : tie.Need-write-requires
-write-requires c κs = stands _ _ _ _ _ (c .before .before .answer .ensures)
+written-requires : tie.Need-written-requires
+written-requires c κs = search needs
 
-slice-aggregate-unwritten : tie.Need-slice-aggregate-unwritten
-slice-aggregate-unwritten c = search needs
+slice-aggregate-complaint : tie.Need-slice-aggregate-complaint
+slice-aggregate-complaint c = search needs
 
-unwritten-requires : tie.Need-unwritten-requires
-unwritten-requires c κs = search needs
+slice-aggregate-complaint-2 : tie.Need-slice-aggregate-complaint-2
+slice-aggregate-complaint-2 c = search needs
 
-slice-aggregate-write-2 : tie.Need-slice-aggregate-write-2
-slice-aggregate-write-2 c = search needs
+complaint-requires : tie.Need-complaint-requires
+complaint-requires c κs = search needs
 
-write-requires-2 : tie.Need-write-requires-2
-write-requires-2 c κs = search needs
+slice-aggregate-written-2 : tie.Need-slice-aggregate-written-2
+slice-aggregate-written-2 c = search needs
+
+written-requires-2 : tie.Need-written-requires-2
+written-requires-2 c κs = search needs
 
 returns : tie.Need-returns
 returns c = search needs
@@ -50,15 +56,17 @@ pub main-spec : {M : Type 1} → statement M
 main-spec =
     tie.close
     (tie.spec
+    slice-aggregate-read-all
     read-all-requires
     slice-aggregate-answer
     slice-aggregate-answer-2
     answer-requires
-    slice-aggregate-write
-    write-requires
-    slice-aggregate-unwritten
-    unwritten-requires
-    slice-aggregate-write-2
-    write-requires-2
+    slice-aggregate-written
+    written-requires
+    slice-aggregate-complaint
+    slice-aggregate-complaint-2
+    complaint-requires
+    slice-aggregate-written-2
+    written-requires-2
     returns
     returns-2)
