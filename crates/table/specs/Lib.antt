@@ -1,0 +1,2 @@
+-- the text of a book's values
+pub mod Table
