@@ -1,10 +1,7 @@
 // A book's values as the text of a table, appended at a place of a lent buffer. specs/Inner/Puts says what each function appends.
-use crate::LONGEST;
-use crate::Shown;
 use book::Form;
 use book::PERMISSIONS;
 use book::POLICIES;
-use book::Reading;
 use book::Row;
 use roster::Policy;
 use values::Values;
@@ -16,7 +13,6 @@ ghost use Rattle.values.specs.Values.{contentsFor};
 ghost use Rattle.values.specs.Inner.Looks.{codeIn, rowIn, policyGiven};
 ghost use Rattle.table.specs.Table.{onlyIf, mark, marks, rowHeading, rowCells, policyHeading, policyCells, tableTextOf};
 ghost use Rattle.table.specs.Inner.Puts.{further, line, codeCells, rowsText, policiesText};
-ghost use Rattle.table.specs.Shown.{longest, Shows};
 
 // ---- the values by their index; past the end of an array nothing stands
 
@@ -231,21 +227,4 @@ pub fn put_table(out: &mut [u8], at: usize, values: Values) -> usize
     let parted = text::put(out, staffed, b'\n');
     let asked = put_policy_heading(out, parted, editions, values);
     put_policies(out, asked, editions, values)
-}
-
-// The table of a book at the front of a buffer that is long enough for any.
-pub fn show(book: &[u8], out: &mut [u8]) -> Shown
-    ensures shown { λ r. ⌜ Shows (now (book .entry)) (now (out .entry)) (now (out .exit)) r ⌝ }
-    ensures kept { λ _. ⌜ now (book .exit) ≡ now (book .entry) ⌝ }
-    ensures limit { λ _. do ⌜ (← ⟦LONGEST⟧ .entry) ≡ longest ⌝ }
-{
-    if out.len() < LONGEST {
-        return Shown::TooShort;
-    }
-    match book::read(book) {
-        Reading::Refused(fault, place) => {
-            Shown::Bad(lines::bad_line(out, fault.number(), place))
-        }
-        Reading::Good(_) => Shown::Table(put_table(out, 0, values::of_book(book))),
-    }
 }
