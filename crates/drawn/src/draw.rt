@@ -15,12 +15,12 @@ pub(crate) fn next(state: u64) -> u64 {
     b ^ (b << 17)
 }
 
-// A count up to the most, which every fourth is.
+// A count below 32; every fourth is the most that there can be.
 fn count(number: u64, most: usize) -> usize {
     if number % 4 == 0 {
         return most;
     }
-    (number / 4 % 64) as usize % most
+    (number / 4 % 32) as usize
 }
 
 fn form(number: u64) -> Form {
@@ -33,10 +33,14 @@ fn form(number: u64) -> Form {
 
 // A set of the permissions that are listed.
 fn set(number: u64, listed: usize) -> u32 {
-    if listed >= PERMISSIONS {
-        return (number % 4294967296) as u32;
+    let drawn = (number % 4294967296) as u32;
+    if listed == 0 {
+        return 0;
     }
-    (number % (1u64 << listed)) as u32
+    if listed >= PERMISSIONS {
+        return drawn;
+    }
+    drawn >> (PERMISSIONS - listed)
 }
 
 // Ascending codes, up to 2,000 apart.
@@ -52,12 +56,23 @@ fn codes(seed: u64) -> [u16; PERMISSIONS] {
     codes
 }
 
-// How far staff numbers are apart at most: in every other book so far that 64 of them take up all numbers.
-fn apart(seed: u64) -> u64 {
-    if seed % 2 == 0 { 3 } else { 67108863 }
+// How far a staff number is from the one before: in every other book so far that 64 of them take up nearly all numbers.
+fn step(seed: u64, number: u64) -> u64 {
+    if seed % 2 == 0 {
+        return 1 + number % 3;
+    }
+    1 + number % 67108863
 }
 
-// Ascending staff numbers, with persons some of whom have several accounts.
+// A person number: in every other book one of few, so that some have several accounts.
+fn person(seed: u64, number: u64) -> u32 {
+    if seed % 2 == 0 {
+        return (number % 20) as u32;
+    }
+    (number % 4294967296) as u32
+}
+
+// Rows whose staff numbers ascend.
 fn rows(seed: u64, listed: usize) -> [Row; Policy::ROWS] {
     let nobody = Row {
         staff: 0,
@@ -72,10 +87,10 @@ fn rows(seed: u64, listed: usize) -> [Row; Policy::ROWS] {
         state = next(held);
         rows[i] = Row {
             staff: (staff % 4294967296) as u32,
-            person: (state % (1 + apart(seed) * 9)) as u32,
+            person: person(seed, state),
             holdings: set(held, listed),
         };
-        staff = std::num::wrapping_add_u64(staff, 1 + state % apart(seed));
+        staff = std::num::wrapping_add_u64(staff, step(seed, state));
     }
     rows
 }
@@ -106,7 +121,8 @@ fn policies(seed: u64, listed: usize) -> [Policy; POLICIES] {
 // The values that are drawn from a number.
 pub(crate) fn values(seed: u64) -> Values {
     let counts = next(seed);
-    let listed = 1 + count(counts, PERMISSIONS - 1);
+    let drawn = count(counts, PERMISSIONS);
+    let listed = if drawn == 0 { 1 } else { drawn };
     Values {
         form: form(counts / 1048576),
         codes: codes(next(counts)),

@@ -15,19 +15,19 @@ const BOOKS: usize = 3000;
 const PLANTED: usize = 10;
 
 // A book of the drawn values, in the first `length` bytes; of no bytes if the values cannot be written.
-struct Drawn {
+struct Book {
     bytes: [u8; values::LONGEST],
     length: usize,
 }
 
-fn drawn(seed: u64) -> Drawn {
+fn drawn(seed: u64) -> Book {
     let mut bytes = [0u8; values::LONGEST];
     match values::write(draw::values(seed), &mut bytes) {
-        Wrote::Written(length) => Drawn {
+        Wrote::Written(length) => Book {
             bytes: bytes,
             length: length,
         },
-        Wrote::Refused(_, _) => Drawn {
+        Wrote::Refused(_, _) => Book {
             bytes: bytes,
             length: 0,
         },
@@ -78,25 +78,23 @@ fn comes_back(shown: &[u8], way: Way, book: &[u8]) -> bool {
     }
 }
 
-// Whether a drawn book comes back; where a wrong one is planted, that one, whose first byte is another.
-fn stands(seed: u64, way: Way, planted: bool) -> bool {
-    let drawn = drawn(seed);
-    let bytes = drawn.bytes;
-    let length = drawn.length;
+// Whether a drawn book comes back, with so much added to the first byte of the one that it is compared with.
+fn stands(seed: u64, way: Way, added: u8) -> bool {
+    let book = drawn(seed);
+    let bytes = book.bytes;
+    let length = book.length;
     let mut other = bytes;
-    if planted {
-        other[0] = std::num::wrapping_add_u8(other[0], 1);
-    }
+    other[0] = std::num::wrapping_add_u8(other[0], added);
     comes_back(front(&bytes, length), way, front(&other, length))
 }
 
 // How many of so many books differ, by the way with this number.
-fn differing(number: usize, books: usize, planted: bool) -> u64 {
-    let way = saved::way(number);
+fn differing(number: usize, books: usize, added: u8) -> u64 {
+    let way = saved::by_number(number);
     let mut seed = draw::FIRST;
     let mut differ: u64 = 0;
     for _ in 0..books {
-        if !stands(seed, way, planted) {
+        if !stands(seed, way, added) {
             differ = std::num::wrapping_add_u64(differ, 1);
         }
         seed = draw::next(seed);
@@ -115,10 +113,10 @@ fn show_counts(compared: usize, differ: u64) {
 
 fn show_way(number: usize) {
     saved::show_name(number);
-    show_counts(BOOKS, differing(number, BOOKS, false));
+    show_counts(BOOKS, differing(number, BOOKS, 0));
     io::write_all(1, b"planted, ");
     saved::show_name(number);
-    show_counts(PLANTED, differing(number, PLANTED, true));
+    show_counts(PLANTED, differing(number, PLANTED, 1));
 }
 
 fn main() {

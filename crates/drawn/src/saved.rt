@@ -20,7 +20,7 @@ struct Place {
 }
 
 // The ways by number.
-pub(crate) fn way(number: usize) -> Way {
+pub(crate) fn by_number(number: usize) -> Way {
     let all = number == 5;
     Way {
         between: if number == 1 || all {
@@ -63,16 +63,20 @@ impl Place {
     }
 }
 
-// The cell of the column of names, if one stands here: in front of each line that is not empty.
+// A cell of the column of names.
+fn put_cell(out: &mut [u8], at: usize, heading: bool) -> usize {
+    if heading {
+        return text::word(out, at, b"#Name");
+    }
+    text::word(out, at, b"\"Doe, \"\"J.\"\"; 2\tx\"")
+}
+
+// The same where one stands: in front of each line that is not empty.
 fn put_name(out: &mut [u8], at: usize, way: Way, place: Place, byte: u8) -> usize {
     if !way.named || !place.begins || byte == b'\n' {
         return at;
     }
-    let next = if place.heading {
-        text::word(out, at, b"#Name")
-    } else {
-        text::word(out, at, b"\"Doe, \"\"J.\"\"; 2\tx\"")
-    };
+    let next = put_cell(out, at, place.heading);
     text::put(out, next, way.between)
 }
 
@@ -87,13 +91,17 @@ fn put_byte(out: &mut [u8], at: usize, way: Way, byte: u8) -> usize {
     text::put(out, at, byte)
 }
 
+// The byte order mark, if there is one.
+fn put_mark(out: &mut [u8], way: Way) -> usize {
+    if way.marked {
+        return text::word(out, 0, b"\xef\xbb\xbf");
+    }
+    0
+}
+
 // The table at the front of the buffer.
 pub(crate) fn put(table: &[u8], out: &mut [u8], way: Way) -> usize {
-    let mut at = if way.marked {
-        text::word(out, 0, b"\xef\xbb\xbf")
-    } else {
-        0
-    };
+    let mut at = put_mark(out, way);
     let mut place = Place {
         begins: true,
         heading: true,

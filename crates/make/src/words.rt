@@ -110,7 +110,12 @@ fn of_columns(out: &mut [u8], at: usize, what: What) -> usize {
         What::OtherPermission => text::word(
             out,
             at,
-            b"the permissions have to be those of the heading of the rows, in the same order, and this is another",
+            b"the heading of the rows has no such permission",
+        ),
+        What::PermissionOrder => text::word(
+            out,
+            at,
+            b"the permissions have to stand as in the heading of the rows",
         ),
         What::PermissionMissing => text::word(
             out,
