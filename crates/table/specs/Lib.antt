@@ -1,0 +1,4 @@
+-- as which text a table is understood
+pub mod Understood
+-- examples, computed
+pub mod Readings
