@@ -4,7 +4,7 @@ use mathlib.Core.Bool.{Bool, true, false, not, _&&_, _||_}
 use mathlib.Core.List.{List, [], _∷_, _++_}
 use Prim.Native.Nat.{ℕ, _+_}
 use lib.Dec.{eqb, ltb}
-use lib.ListN.{getD, drop}
+use lib.ListN.{length, getD, drop}
 use Rattle.text.specs.Text.{comma, newline, joined}
 use Rattle.text.specs.Cut.{longer, ended}
 
@@ -54,8 +54,8 @@ small c = elim (ltb 64 c && ltb c 91) [ true ↦ c + 32 | false ↦ c ]
 unfoldable pub readAs : ℕ → Bool → ℕ → ℕ
 readAs separator quoted c =
     elim (not quoted && eqb c separator) [
-      true ↦ comma
-    | false ↦ elim (eqb c comma || (quoted && eqb c newline)) [ true ↦ semicolon | false ↦ small c ]
+      | true ↦ comma
+      | false ↦ elim (eqb c comma || (quoted && eqb c newline)) [ true ↦ semicolon | false ↦ small c ]
     ]
 
 -- quotation marks and carriage returns are left out
@@ -66,8 +66,8 @@ unfoldable pub plainFrom : ℕ → Bool → List ℕ → List ℕ
 plainFrom separator quoted [] = []
 plainFrom separator quoted (c ∷ text) =
     elim (leftOut c) [
-      true ↦ plainFrom separator (turned quoted c) text
-    | false ↦ readAs separator quoted c ∷ plainFrom separator (turned quoted c) text
+      | true ↦ plainFrom separator (turned quoted c) text
+      | false ↦ readAs separator quoted c ∷ plainFrom separator (turned quoted c) text
     ]
 
 unfoldable pub plain : List ℕ → List ℕ
@@ -106,10 +106,14 @@ fitted heading line = joined comma (fit (cut comma heading) (cut comma line))
 -- long as one is waited for. Blank lines are left out, and one empty line stands before every heading but the first (`gap`).
 unfoldable pub parts : List (List ℕ) → List ℕ → List (List ℕ) → List (List ℕ)
 parts gap heading [] = []
-parts gap heading (line ∷ lines) = elim (blank line) [ true ↦ parts gap [] lines | false ↦ elim heading [
-      [] ↦ gap ++ (fitted line line ∷ parts ([] ∷ []) line lines)
-    | h ∷ rest ↦ fitted heading line ∷ parts gap heading lines
-    ] ]
+parts gap heading (line ∷ lines) =
+    elim (blank line) [
+      | true ↦ parts gap [] lines
+      | false ↦ elim (eqb (length heading) 0) [
+        | true ↦ gap ++ (fitted line line ∷ parts ([] ∷ []) line lines)
+        | false ↦ fitted heading line ∷ parts gap heading lines
+      ]
+    ]
 
 unfoldable pub understood : List ℕ → List ℕ
 understood text = ended (parts [] [] (cut newline (plain text)))

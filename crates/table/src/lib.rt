@@ -1,9 +1,82 @@
 // The book as a table that a spreadsheet opens and saves. specs/Table says which text a book's values have, specs/Understood as which text any
 // table is understood, specs/Making what is made of it.
-mod make;
 
-pub use make::make;
-pub use make::ENOUGH;
-pub use make::Making;
-pub use make::Trouble;
-pub use make::What;
+// So many bytes of a table decide: one more than a table may have.
+pub const ENOUGH: usize = 65537;
+
+// What is wrong with a table.
+pub enum What {
+    // the whole table
+    TooLong,
+    NoTable,
+    NoPolicies,
+    // the rows' heading
+    NoStaff,
+    NoCode,
+    CodeTwice,
+    CodeOrder,
+    NoPermission,
+    TooManyPermissions,
+    // a row
+    Staff,
+    StaffTwice,
+    StaffOrder,
+    Person,
+    TooManyRows,
+    // the policies' heading
+    NoAway,
+    NoCrews,
+    NoSize,
+    EditionAlone,
+    OtherPermission,
+    PermissionMissing,
+    ThirdHeading,
+    // a policy
+    Away,
+    Crews,
+    Size,
+    Edition,
+    NothingAsked,
+    TooManyPolicies,
+    // any line
+    Mark,
+    TooManyCells,
+    NoHeading,
+    // not told by any of these, and all the same not the text of a book
+    NotUnderstood,
+}
+
+// Where a table is wrong, as a spreadsheet counts, and how. Lines and columns are counted from 1, also those that are passed over; column 0 is the
+// whole line, and line 0 the whole table.
+pub struct Trouble {
+    pub line: usize,
+    pub column: usize,
+    pub what: What,
+}
+
+// What asking for a book comes to: how many bytes of the buffer it takes; what is wrong with the table; or that the buffer is shorter than a book
+// can be.
+pub enum Making {
+    Made(usize),
+    Wrong(Trouble),
+    TooShort,
+}
+
+// The book of a table at the front of a buffer that is long enough for any.
+pub fn make(text: &[u8], out: &mut [u8]) -> Making {
+    if out.len() < values::LONGEST {
+        return Making::TooShort;
+    }
+    if text.len() >= ENOUGH {
+        return Making::Wrong(Trouble {
+            line: 0,
+            column: 0,
+            what: What::TooLong,
+        });
+    }
+    Making::Wrong(Trouble {
+        line: 0,
+        column: 0,
+        what: What::NotUnderstood,
+    })
+}
