@@ -5,7 +5,7 @@ use Prim.Native.Nat.{ℕ}
 use Prim.Native.String.{String}
 use Rattle.text.specs.Text.{quoted, joined, marked}
 use Rattle.text.specs.Cut.{longer, ended}
-use Rattle.table.specs.Understood.{isMarked, unmarked, turned, parting, separatorFrom, small, readAs, leftOut, plainFrom, plain, cut, blank, under, fit, fitted, parts, understood}
+use Rattle.table.specs.Understood.{markLength, turned, parting, separatorFrom, small, content, readAs, plainByte, plainFrom, plain, cut, blank, under, fit, fitted, parts, tidy, understood}
 
 -- a table, and as what it is understood
 pub record Reading : Type 0 where
@@ -33,7 +33,7 @@ readings =
     -- capital letters
     ∷ reads "Staff,PERSON,9\n1,1,X\n" "staff,person,9\n1,1,x\n"
     -- quoted cells; columns that are passed over, in either part, with commas and line breaks in them
-    ∷ reads "\"staff\",\"#name\",\"110\"\n\"1\",\"Ada, née \"\"L\"\"\nof B\",\"x\"\n" "staff,110\n1,x\n"
+    ∷ reads "\"staff\",\"#name\",\"110\"\n\"1\",\"Ada, nee \"\"L\"\"\nof B\",\"x\"\n" "staff,110\n1,x\n"
     ∷ reads "\"#a,b\";staff;110;#\nn;1;x;\n\ns;d;t;#why;110\n0;1;1;to try;x\n" "staff,110\n1,x\n\ns,d,t,110\n0,1,1,x\n"
     -- lines as a spreadsheet pads them, and lines that are too short
     ∷ reads ",,\nstaff,110,,,\n1,x,,,\n2,,,,\n,,,,\n,,\ns,d,t,110,\n0,1,1,x,\n,,,,\n,,,,\n" "staff,110\n1,x\n2,\n\ns,d,t,110\n0,1,1,x\n"
@@ -52,5 +52,5 @@ readings =
     ∷ []
 
 pub readings-hold : map (λ (x : Reading). understood (x .table)) readings ≡ map (λ (x : Reading). x .text) readings
-unfolding isMarked unmarked turned parting separatorFrom small readAs leftOut plainFrom plain longer cut blank under fit marked joined fitted parts ended understood
+unfolding markLength turned parting separatorFrom small content readAs plainByte plainFrom plain longer cut blank under fit marked joined fitted parts ended tidy understood
 readings-hold = refl

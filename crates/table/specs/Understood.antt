@@ -25,53 +25,49 @@ quote = 34
 abbrev pub hash : ℕ
 hash = 35
 
--- "a byte order mark .. does no harm"
-unfoldable pub isMarked : List ℕ → Bool
-isMarked text = eqb (getD text 0 0) 239 && (eqb (getD text 1 0) 187 && eqb (getD text 2 0) 191)
-
-unfoldable pub unmarked : List ℕ → List ℕ
-unmarked text = elim (isMarked text) [ true ↦ drop 3 text | false ↦ text ]
+-- "a byte order mark .. does no harm": how many bytes it takes at the front
+unfoldable pub markLength : List ℕ → ℕ
+markLength text = elim (eqb (getD text 0 0) 239 && (eqb (getD text 1 0) 187 && eqb (getD text 2 0) 191)) [ true ↦ 3 | false ↦ 0 ]
 
 -- a quotation mark switches quoting on and off
 unfoldable pub turned : Bool → ℕ → Bool
 turned quoted c = elim (eqb c quote) [ true ↦ not quoted | false ↦ quoted ]
 
--- what may stand between cells
-unfoldable pub parting : ℕ → Bool
-parting c = eqb c comma || (eqb c semicolon || eqb c tab)
+-- what may part cells: one of three bytes, outside quotes
+unfoldable pub parting : Bool → ℕ → Bool
+parting true c = false
+parting false c = eqb c comma || (eqb c semicolon || eqb c tab)
 
--- what stands between them: the first such byte outside quotes, "as the first line has it"; a comma where there is none
+-- what parts them: the first such byte, "as the first line has it"; a comma where there is none
 unfoldable pub separatorFrom : Bool → List ℕ → ℕ
 separatorFrom quoted [] = comma
-separatorFrom quoted (c ∷ text) = elim (not quoted && parting c) [ true ↦ c | false ↦ separatorFrom (turned quoted c) text ]
+separatorFrom quoted (c ∷ text) = elim (parting quoted c) [ true ↦ c | false ↦ separatorFrom (turned quoted c) text ]
 
 -- a small letter for a capital one
 unfoldable pub small : ℕ → ℕ
-small c = elim (ltb 64 c && ltb c 91) [ true ↦ c + 32 | false ↦ c ]
+small c = elim (ltb c 65) [ true ↦ c | false ↦ elim (ltb 90 c) [ true ↦ c | false ↦ c + 32 ] ]
 
--- A byte as it is read: between cells it is a comma, and between lines a newline. A comma or a newline that is part of a cell is read as a
--- semicolon, so that from here on the two only part.
+-- a byte of a cell: a comma among them is read as a semicolon, so that from here on commas only part
+unfoldable pub content : ℕ → ℕ
+content c = elim (eqb c comma) [ true ↦ semicolon | false ↦ small c ]
+
+-- a byte as it is read, within quotes, where a line break is part of a cell, and outside them
 unfoldable pub readAs : ℕ → Bool → ℕ → ℕ
-readAs separator quoted c =
-    elim (not quoted && eqb c separator) [
-      | true ↦ comma
-      | false ↦ elim (eqb c comma || (quoted && eqb c newline)) [ true ↦ semicolon | false ↦ small c ]
-    ]
+readAs separator true c = elim (eqb c newline) [ true ↦ semicolon | false ↦ content c ]
+readAs separator false c = elim (eqb c separator) [ true ↦ comma | false ↦ content c ]
 
 -- quotation marks and carriage returns are left out
-unfoldable pub leftOut : ℕ → Bool
-leftOut c = eqb c quote || eqb c return
+unfoldable pub plainByte : ℕ → Bool → ℕ → List ℕ
+plainByte separator quoted c = elim (eqb c quote || eqb c return) [ true ↦ [] | false ↦ readAs separator quoted c ∷ [] ]
 
 unfoldable pub plainFrom : ℕ → Bool → List ℕ → List ℕ
 plainFrom separator quoted [] = []
-plainFrom separator quoted (c ∷ text) =
-    elim (leftOut c) [
-      | true ↦ plainFrom separator (turned quoted c) text
-      | false ↦ readAs separator quoted c ∷ plainFrom separator (turned quoted c) text
-    ]
+plainFrom separator quoted (c ∷ text) = plainByte separator quoted c ++ plainFrom separator (turned quoted c) text
 
 unfoldable pub plain : List ℕ → List ℕ
-plain text = plainFrom (separatorFrom false (unmarked text)) false (unmarked text)
+plain text =
+    let bytes = drop (markLength text) text in
+    plainFrom (separatorFrom false bytes) false bytes
 
 -- ---- lines fitted to their headings
 
@@ -115,5 +111,9 @@ parts gap heading (line ∷ lines) =
       ]
     ]
 
+-- the plain text, line by line
+unfoldable pub tidy : List ℕ → List ℕ
+tidy text = ended (parts [] [] (cut newline text))
+
 unfoldable pub understood : List ℕ → List ℕ
-understood text = ended (parts [] [] (cut newline (plain text)))
+understood text = tidy (plain text)
