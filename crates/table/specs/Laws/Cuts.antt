@@ -88,7 +88,7 @@ piece-marked text at end mark h k l e =
       begins = h;
       onward = omega arith;
       within = omega arith;
-      moves = λ _. omega arith;
+      moves = λ below. omega arith;
       first = p .0;
       others = p .1;
     }
@@ -113,7 +113,7 @@ piece-last text at end mark h k l =
       begins = h;
       onward = omega arith;
       within = omega arith;
-      moves = λ _. omega arith;
+      moves = λ below. omega arith;
       first = ap (λ (r : List ℕ). firstOf (cut mark r)) whole ∙ p .0;
       others = ap (λ (r : List ℕ). othersOf (cut mark r)) whole ∙ p .1 ∙ sym (ap (cut mark) past ∙ nothing-cut mark);
     }
