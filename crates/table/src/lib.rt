@@ -1,8 +1,10 @@
 // The book as a table that a spreadsheet opens and saves. specs/Table says which text a book's values have, specs/Understood as which text any
 // table is understood, specs/Making what is made of it.
 mod fit;
+mod parse;
 mod plain;
 
+use parse::Found;
 ghost use mathlib.Core.Path.{_≡_};
 ghost use mathlib.Core.Bool.{true};
 
@@ -125,5 +127,10 @@ pub fn make(text: &[u8], out: &mut [u8]) -> Making {
     if length >= ENOUGH {
         return all_wrong(What::NotUnderstood);
     }
-    all_wrong(What::NotUnderstood)
+    let draft = parse::parse(&plain[0..length]);
+    let found = draft.found;
+    match found {
+        Found::Wrong(trouble) => Making::Wrong(trouble),
+        Found::Nothing => all_wrong(What::NotUnderstood),
+    }
 }
