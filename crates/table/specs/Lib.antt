@@ -5,3 +5,5 @@ pub mod Shown
 pub mod Examples
 -- what the crate's own functions append
 pub mod Inner
+-- the theorems
+pub mod Laws

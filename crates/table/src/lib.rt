@@ -3,9 +3,9 @@
 mod put;
 
 use book::Reading;
+use put::put_table;
 ghost use mathlib.Core.Path.{_≡_};
 ghost use Rattle.table.specs.Shown.{longest, Shows};
-pub use put::put_table;
 
 // No book's table is longer: a heading and 64 rows of at most 205 and 86 bytes, an empty line, a heading and 32 policies of at most 206 and 74.
 pub const LONGEST: usize = 8284;
