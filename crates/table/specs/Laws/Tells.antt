@@ -186,6 +186,17 @@ heading-same word apart true false a (code ∷ b) e = absurd (apart code (sym (h
 no-number : (letter : ℕ) (word : List ℕ) → NoDigit letter → (n : ℕ) → decimal n ≢ letter ∷ word
 no-number letter word none n e = decimal-lacks letter n none (subst (List·Memᴰ letter) (sym e) (List·Memᴰ·head refl))
 
+row-heading-same : (p q : Bool) (a b : List ℕ) → lineOf (rowHeading p a) ≡ lineOf (rowHeading q b) → (p ≡ q) × (a ≡ b)
+row-heading-same p q a b e =
+    let cells = line-same (rowHeading p a) (rowHeading q b) (clean-row-heading p a) (clean-row-heading q b) e in
+    heading-same (quoted "person") (no-number 112 (quoted "erson") (λ d l q. omega arith)) p q a b (tail-eq-of-cons-eq cells)
+
+policy-heading-same : (p q : Bool) (a b : List ℕ) → lineOf (policyHeading p a) ≡ lineOf (policyHeading q b) → (p ≡ q) × (a ≡ b)
+policy-heading-same p q a b e =
+    let cells = line-same (policyHeading p a) (policyHeading q b) (clean-policy-heading p a) (clean-policy-heading q b) e in
+    heading-same (quoted "edition") (no-number 101 (quoted "dition") (λ d l q. omega arith)) p q a b
+    (tail-eq-of-cons-eq (tail-eq-of-cons-eq (tail-eq-of-cons-eq cells)))
+
 form-same : (a b : Form) → hasPersons a ≡ hasPersons b → hasEditions a ≡ hasEditions b → a ≡ b
 form-same Old Old p e = refl
 form-same Old Persons p e = let z : _≡_ {A = ℕ} 0 1 = cc in absurd (omega arith)
@@ -313,10 +324,7 @@ pub text-tells : (a b : Contents) → Admitted a → Admitted b → tableTextOf 
 unfolding rowLines policyLines
 text-tells a b h k e =
     let parts = at-empty (rowLines a) (rowLines b) (policyLines a) (policyLines b) (rows-some a) (rows-some b) (sym (lines-of-text a) ∙ ap linesOf e ∙ lines-of-text b) in
-    let first = line-same (rowHeading (hasPersons (a .form)) (a .codes)) (rowHeading (hasPersons (b .form)) (b .codes)) (clean-row-heading _ _) (clean-row-heading _ _) (head-eq-of-cons-eq (parts .0)) in
-    let second = line-same (policyHeading (hasEditions (a .form)) (a .codes)) (policyHeading (hasEditions (b .form)) (b .codes)) (clean-policy-heading _ _) (clean-policy-heading _ _) (head-eq-of-cons-eq (parts .1)) in
-    let persons = heading-same (quoted "person") (no-number 112 (quoted "erson") (λ d l q. omega arith)) (hasPersons (a .form)) (hasPersons (b .form)) (a .codes) (b .codes) (tail-eq-of-cons-eq first) in
-    let editions = heading-same (quoted "edition") (no-number 101 (quoted "dition") (λ d l q. omega arith)) (hasEditions (a .form)) (hasEditions (b .form)) (a .codes) (b .codes)
-    (tail-eq-of-cons-eq (tail-eq-of-cons-eq (tail-eq-of-cons-eq second))) in
-    let form : a .form ≡ b .form = form-same (a .form) (b .form) (persons .0) (editions .0) in
-    contents-same form (persons .1) (rows-told a b h k form (persons .1) (tail-eq-of-cons-eq (parts .0))) (policies-told a b h k form (persons .1) (tail-eq-of-cons-eq (parts .1)))
+    let rows = row-heading-same (hasPersons (a .form)) (hasPersons (b .form)) (a .codes) (b .codes) (head-eq-of-cons-eq (parts .0)) in
+    let policies = policy-heading-same (hasEditions (a .form)) (hasEditions (b .form)) (a .codes) (b .codes) (head-eq-of-cons-eq (parts .1)) in
+    let form : a .form ≡ b .form = form-same (a .form) (b .form) (rows .0) (policies .0) in
+    contents-same form (rows .1) (rows-told a b h k form (rows .1) (tail-eq-of-cons-eq (parts .0))) (policies-told a b h k form (rows .1) (tail-eq-of-cons-eq (parts .1)))
