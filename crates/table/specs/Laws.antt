@@ -1,6 +1,6 @@
 -- one reply, the length, that a front of the book is enough, and that the text tells the book
 pub mod Same
-pub mod Fits
+pub mod Length
 pub mod Front
 pub mod Tells
 -- what that stands on

@@ -24,7 +24,7 @@ use Rattle.values.specs.declared.Values.{Values}
 use Rattle.table.specs.Table.{tableTextOf}
 use Rattle.table.specs.Shown.{shownBy, shownOf, shownAs, longest, Shows}
 use Rattle.table.specs.Laws.Counted.{book-counted}
-use Rattle.table.specs.Laws.Fits.{shown-fits}
+use Rattle.table.specs.Laws.Length.{shown-fits}
 use borrow.Author.Needs.{needs}
 use Rattle.table.proofs.show.Statement.{statement}
 use Rattle.table.proofs.show.Tie as tie

@@ -14,7 +14,13 @@ use Rattle.sets.specs.Mask.{bit}
 use Rattle.sets.specs.Laws.Arrays.{getD-tabulate}
 use Rattle.sets.specs.Laws.Digits.{bit-le, ext}
 use Rattle.roster.specs.declared.Policy.{Policy}
-use Rattle.book.specs.Layout.{Contents, hasPersons, hasEditions, OwnEdition, Each, PolicyFits, Admitted}
+use Rattle.book.specs.Layout.{Contents, hasPersons, hasEditions, bytesOf, OwnEdition, Each, PolicyFits, Admitted}
+use Rattle.book.specs.Laws.Books.{good-layout}
+use Rattle.book.specs.Parts.{contentsOf}
+use Rattle.book.specs.Promises.{Bytes}
+use Rattle.book.specs.Reading.{readOf}
+use Rattle.book.specs.declared.Reading.the-variants.{Good}
+use Rattle.book.specs.declared.Starts.{Starts}
 use Rattle.book.specs.Laws.Values.{RowFits, each-row-fits, each-both}
 use Rattle.book.specs.declared.Form.{Form}
 use Rattle.book.specs.declared.Form.the-variants.{Old, Persons, Editions}
@@ -328,3 +334,11 @@ text-tells a b h k e =
     let policies = policy-heading-same (hasEditions (a .form)) (hasEditions (b .form)) (a .codes) (b .codes) (head-eq-of-cons-eq (parts .1)) in
     let form : a .form ≡ b .form = form-same (a .form) (b .form) (rows .0) (policies .0) in
     contents-same form (rows .1) (rows-told a b h k form (rows .1) (tail-eq-of-cons-eq (parts .0))) (policies-told a b h k form (rows .1) (tail-eq-of-cons-eq (parts .1)))
+
+-- so good books of one table are one book, byte for byte
+pub table-tells : (a b : List ℕ) (s t : Starts) → Bytes a → Bytes b → readOf a ≡ Good s → readOf b ≡ Good t
+    → tableTextOf (contentsOf a) ≡ tableTextOf (contentsOf b) → a ≡ b
+table-tells a b s t h k e f same =
+    let of-a = good-layout a s h e in
+    let of-b = good-layout b t k f in
+    of-a .bytes ∙ ap bytesOf (text-tells (contentsOf a) (contentsOf b) (of-a .admitted) (of-b .admitted) same) ∙ sym (of-b .bytes)

@@ -1,17 +1,20 @@
--- No table of admitted values is longer than `longest`. Assumes nothing.
+-- No table of admitted values is longer than `longest`, and one is as long. Assumes nothing.
 use mathlib.Core.Path.{_≡_, refl, ap, _∙_}
 use mathlib.Core.Logic.{⊎-elim}
 use mathlib.Core.Bool.{Bool, true, false}
+use mathlib.Core.Option.{none}
 use mathlib.Core.List.{List, [], _∷_, _++_, map}
-use Prim.Native.Nat.{ℕ, zero, suc, _+_, _*_, _^_, _≤_, _<_}
+use Prim.Native.Nat.{ℕ, zero, suc, _+_, _-_, _*_, _^_, _≤_, _<_}
 use native.Mathlib.Nat.{mul-suc}
 use native.Mathlib.Omega.{arith}
 use lib.ListN.{length, length-append}
 use Rattle.sets.specs.Arrays.{tabulate}
 use Rattle.sets.specs.Mask.{bit}
+use Rattle.roster.specs.Limits.{rowLimit}
+use Rattle.roster.specs.Refusals.{policyRuling}
 use Rattle.roster.specs.Laws.Rulings.{policy-within}
 use Rattle.roster.specs.declared.Policy.{Policy}
-use Rattle.book.specs.Layout.{Contents, hasPersons, hasEditions, permissionLimit, Each, PolicyFits, Admitted}
+use Rattle.book.specs.Layout.{Contents, hasPersons, hasEditions, permissionLimit, policyLimit, Each, PolicyFits, Admitted}
 use Rattle.book.specs.Laws.Books.{good-layout, reply}
 use Rattle.book.specs.Laws.Books as books
 use Rattle.book.specs.Laws.Values.{each, each-both}
@@ -19,10 +22,12 @@ use Rattle.book.specs.Parts.{contentsOf}
 use Rattle.book.specs.Promises.{Bytes}
 use Rattle.book.specs.Reading.{formOf, startsOf, readOf}
 use Rattle.book.specs.declared.Reading.{Reading}
+use Rattle.book.specs.declared.Form.the-variants.{Editions}
 use Rattle.book.specs.declared.Row.{Row}
-use Rattle.text.specs.Text.{quoted, comma, decimal, joined, marked}
+use Rattle.text.specs.Text.{quoted, comma, decimalIn, decimal, joined, marked}
 use Rattle.text.specs.Cut.{ended}
 use Rattle.text.specs.Laws.Decimal.{decimal-length}
+use Rattle.values.specs.Writing.{valueLooks, firstOf, faultIn}
 use Rattle.lines.specs.Laws.Fits.{total, marked-length, bad-short}
 use Rattle.table.specs.Table.{onlyIf, mark, marks, rowHeading, rowCells, policyHeading, policyCells, lineOf, rowLines, policyLines, tableTextOf}
 use Rattle.table.specs.Shown.{shownBy, shownOf, longest}
@@ -153,6 +158,25 @@ table-fits v a =
       a .rows,
       a .policies,
     )
+
+-- ---- one that is as long: every number has as many digits as it may have, and every mark is there
+
+abbrev pub widest : Contents
+widest = record {
+  form = Editions;
+  codes = tabulate permissionLimit (λ i. 65504 + i);
+  rows = tabulate rowLimit (λ i. record { staff = 4294967232 + i; person = 4294967295; holdings = 2 ^ 32 - 1 });
+  policies = tabulate policyLimit (λ i. record { task = 2 ^ 32 - 1; away = 64; crews = 8; size = 64; edition = 2 });
+}
+
+-- the writer finds no fault with it
+pub widest-sound : faultIn widest ≡ none
+unfolding tabulate policyRuling firstOf valueLooks
+widest-sound = refl
+
+pub longest-table : length (tableTextOf widest) ≡ longest
+unfolding tabulate bit decimalIn decimal marked joined ended marks rowLines policyLines tableTextOf
+longest-table = refl
 
 -- what is shown of any byte string fits
 pub shown-fits : (book : List ℕ) → Bytes book → length (shownOf book) ≤ longest
