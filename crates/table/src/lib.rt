@@ -1,15 +1,36 @@
-// The book as a table that a spreadsheet opens and saves. specs/Table says which text a book's values have, specs/Understood as which text any
-// table is understood, specs/Making what is made of it.
+// The book as a table that a spreadsheet opens and saves. specs/Table says which text a book's values have and specs/Shown what is shown of a book;
+// specs/Understood says as which text any table is understood, and specs/Making what is made of it.
 mod fit;
 mod parse;
 mod plain;
+mod put;
 
+use book::Reading;
 use parse::Found;
+use put::put_table;
+use values::Values;
+use values::Wrote;
 ghost use mathlib.Core.Path.{_≡_};
 ghost use mathlib.Core.Bool.{true};
+ghost use Prim.Native.Nat.{_≤_};
+ghost use lib.ListN.{length};
+ghost use Rattle.values.specs.Writing.{longest as Writing·longest};
+ghost use Rattle.table.specs.Shown.{longest, Shows};
+ghost use Rattle.table.specs.Understood.{tidy};
+ghost use Rattle.table.specs.Making.{enough, wholly, BookOf, MakesOf, Makes};
 
+// No book's table is longer: a heading and 64 rows of at most 205 and 86 bytes, an empty line, a heading and 32 policies of at most 206 and 74.
+pub const LONGEST: usize = 8284;
 // So many bytes of a table decide: one more than a table may have.
 pub const ENOUGH: usize = 65537;
+
+// What showing a book comes to: so many bytes at the front of the buffer are its table; or they are the `bad` line of a refused book; or the buffer is
+// shorter than a table can be.
+pub enum Shown {
+    Table(usize),
+    Bad(usize),
+    TooShort,
+}
 
 // What is wrong with a table.
 pub enum What {
@@ -85,6 +106,23 @@ struct Turn {
     to: usize,
 }
 
+// The table of a book at the front of a buffer that is long enough for any.
+pub fn show(book: &[u8], out: &mut [u8]) -> Shown
+    ensures shown { λ r. ⌜ Shows (now (book .entry)) (now (out .entry)) (now (out .exit)) r ⌝ }
+    ensures kept { λ _. ⌜ now (book .exit) ≡ now (book .entry) ⌝ }
+    ensures limit { λ _. do ⌜ (← ⟦LONGEST⟧ .entry) ≡ longest ⌝ }
+{
+    if out.len() < LONGEST {
+        return Shown::TooShort;
+    }
+    match book::read(book) {
+        Reading::Refused(fault, place) => {
+            Shown::Bad(lines::bad_line(out, fault.number(), place))
+        }
+        Reading::Good(_) => Shown::Table(put_table(out, 0, values::of_book(book))),
+    }
+}
+
 // Whether two texts are the same.
 fn same(a: &[u8], b: &[u8]) -> bool
     ensures { λ r. ⌜ (r ≡ true → now (a .entry) ≡ now (b .entry)) ⌝ }
@@ -106,7 +144,9 @@ fn same(a: &[u8], b: &[u8]) -> bool
 }
 
 // This is wrong with the whole table.
-fn all_wrong(what: What) -> Making {
+fn all_wrong(what: What) -> Making
+    ensures { λ r. ⌜ r ≡ wholly what ⌝ }
+{
     Making::Wrong(Trouble {
         line: 0,
         column: 0,
@@ -114,8 +154,75 @@ fn all_wrong(what: What) -> Making {
     })
 }
 
+// Whether the book is a good one whose table is this text.
+fn is_shown(book: &[u8], text: &[u8]) -> bool
+    ensures { λ r. ⌜ (r ≡ true → BookOf (now (text .entry)) (now (book .entry))) ⌝ }
+{
+    let mut table = [0u8; LONGEST];
+    match show(book, &mut table) {
+        Shown::Table(length) => {
+            if length > LONGEST {
+                return false;
+            }
+            same(&table[0..length], text)
+        }
+        Shown::Bad(_) => false,
+        Shown::TooShort => false,
+    }
+}
+
+// Whether the book is a good one whose table is the plain text as it is understood. What does not fit is left out: a text that fills the buffer
+// may be longer.
+fn is_told(book: &[u8], plain: &[u8]) -> bool
+    ensures { λ r. ⌜ (r ≡ true → BookOf (tidy (now (plain .entry))) (now (book .entry))) ⌝ }
+{
+    let mut text = [0u8; LONGEST + 1];
+    let length = fit::put_tidy(plain, &mut text);
+    if length > LONGEST {
+        return false;
+    }
+    is_shown(book, &text[0..length])
+}
+
+// The book of these values, if it is one of the plain text.
+fn written(plain: &[u8], values: Values, out: &mut [u8]) -> Making
+    requires { ⌜ Writing·longest ≤ length (now out) ⌝ }
+    ensures { λ r. ⌜ MakesOf (tidy (now (plain .entry))) (now (out .entry)) (now (out .exit)) r ⌝ }
+{
+    let mut book = [0u8; values::LONGEST];
+    match values::write(values, &mut book) {
+        Wrote::Written(length) => {
+            if length > values::LONGEST {
+                return all_wrong(What::NotUnderstood);
+            }
+            if !is_told(&book[0..length], plain) {
+                return all_wrong(What::NotUnderstood);
+            }
+            Making::Made(text::word(out, 0, &book[0..length]))
+        }
+        Wrote::Refused(_, _) => all_wrong(What::NotUnderstood),
+    }
+}
+
+// The book of a plain text.
+fn made_of(plain: &[u8], out: &mut [u8]) -> Making
+    requires { ⌜ Writing·longest ≤ length (now out) ⌝ }
+    ensures { λ r. ⌜ MakesOf (tidy (now (plain .entry))) (now (out .entry)) (now (out .exit)) r ⌝ }
+{
+    let draft = parse::parse(plain);
+    let found = draft.found;
+    match found {
+        Found::Wrong(trouble) => Making::Wrong(trouble),
+        Found::Nothing => written(plain, draft.said(), out),
+    }
+}
+
 // The book of a table at the front of a buffer that is long enough for any.
-pub fn make(text: &[u8], out: &mut [u8]) -> Making {
+pub fn make(text: &[u8], out: &mut [u8]) -> Making
+    ensures made { λ r. ⌜ Makes (now (text .entry)) (now (out .entry)) (now (out .exit)) r ⌝ }
+    ensures kept { λ _. ⌜ now (text .exit) ≡ now (text .entry) ⌝ }
+    ensures limit { λ _. do ⌜ (← ⟦ENOUGH⟧ .entry) ≡ enough ⌝ }
+{
     if out.len() < values::LONGEST {
         return Making::TooShort;
     }
@@ -127,10 +234,5 @@ pub fn make(text: &[u8], out: &mut [u8]) -> Making {
     if length >= ENOUGH {
         return all_wrong(What::NotUnderstood);
     }
-    let draft = parse::parse(&plain[0..length]);
-    let found = draft.found;
-    match found {
-        Found::Wrong(trouble) => Making::Wrong(trouble),
-        Found::Nothing => all_wrong(What::NotUnderstood),
-    }
+    made_of(&plain[0..length], out)
 }
