@@ -1,59 +1,43 @@
 // A book's values as the text of a table, appended at a place of a lent buffer. specs/Inner/Puts says what each function appends.
 use book::Form;
-use book::PERMISSIONS;
-use book::POLICIES;
 use book::Row;
 use roster::Policy;
 use values::Values;
 ghost use mathlib.Core.Path.{_≡_};
 ghost use mathlib.Core.List.{[], _∷_};
+ghost use Prim.Native.Nat.{_≤_, _<_};
 ghost use Rattle.text.specs.Text.{Appended, decimal};
-ghost use Rattle.book.specs.Layout.{hasPersons, hasEditions};
+ghost use Rattle.roster.specs.Limits.{rowLimit};
+ghost use Rattle.book.specs.Layout.{hasPersons, hasEditions, permissionLimit, policyLimit};
 ghost use Rattle.values.specs.Values.{contentsFor};
-ghost use Rattle.values.specs.Inner.Looks.{codeIn, rowIn, policyGiven};
+ghost use Rattle.values.specs.Inner.Looks.{codeIn, rowIn, policyGiven, Counted};
 ghost use Rattle.table.specs.Table.{onlyIf, mark, marks, rowHeading, rowCells, policyHeading, policyCells, tableTextOf};
 ghost use Rattle.table.specs.Inner.Puts.{further, line, codeCells, rowsText, policiesText};
 
-// ---- the values by their index; past the end of an array nothing stands
+// ---- the values by their index
 
 // The code of this index.
-fn code_in(values: Values, i: usize) -> u64
-    ensures { λ r. ⌜ r ≡ codeIn values i ⌝ }
+fn code_in(contents: Values, i: usize) -> u64
+    requires { ⌜ i < permissionLimit ⌝ }
+    ensures { λ r. ⌜ r ≡ codeIn contents i ⌝ }
 {
-    if i >= PERMISSIONS {
-        return 0;
-    }
-    values.codes[i] as u64
+    contents.codes[i] as u64
 }
 
 // The row of this index.
-fn row_in(values: Values, i: usize) -> Row
-    ensures { λ r. ⌜ r ≡ rowIn values i ⌝ }
+fn row_in(contents: Values, i: usize) -> Row
+    requires { ⌜ i < rowLimit ⌝ }
+    ensures { λ r. ⌜ r ≡ rowIn contents i ⌝ }
 {
-    if i >= Policy::ROWS {
-        return Row {
-            staff: 0,
-            person: 0,
-            holdings: 0,
-        };
-    }
-    values.rows[i]
+    contents.rows[i]
 }
 
 // The policy of this index.
-fn policy_in(values: Values, i: usize) -> Policy
-    ensures { λ r. ⌜ r ≡ policyGiven values i ⌝ }
+fn policy_in(contents: Values, i: usize) -> Policy
+    requires { ⌜ i < policyLimit ⌝ }
+    ensures { λ r. ⌜ r ≡ policyGiven contents i ⌝ }
 {
-    if i >= POLICIES {
-        return Policy {
-            task: 0,
-            away: 0,
-            crews: 0,
-            size: 0,
-            edition: 0,
-        };
-    }
-    values.policies[i]
+    contents.policies[i]
 }
 
 // Whether there is a column of person numbers.
@@ -128,14 +112,15 @@ fn put_marks(out: &mut [u8], at: usize, listed: usize, set: u32) -> usize
 }
 
 // The codes of a heading.
-fn put_codes(out: &mut [u8], at: usize, values: Values) -> usize
-    ensures { λ r. ⌜ Appended (codeCells values) (now (out .entry)) at (now (out .exit)) r ⌝ }
+fn put_codes(out: &mut [u8], at: usize, contents: Values) -> usize
+    requires { ⌜ contents .«code_count» ≤ permissionLimit ⌝ }
+    ensures { λ r. ⌜ Appended (codeCells contents) (now (out .entry)) at (now (out .exit)) r ⌝ }
 {
-    let count = values.code_count;
+    let count = contents.code_count;
     let mut next = at;
     let mut i = 0;
     while i < count {
-        next = text::number(out, next, b',', code_in(values, i));
+        next = text::number(out, next, b',', code_in(contents, i));
         i += 1;
     }
     next
@@ -144,12 +129,13 @@ fn put_codes(out: &mut [u8], at: usize, values: Values) -> usize
 // ---- lines
 
 // The rows' heading.
-fn put_row_heading(out: &mut [u8], at: usize, persons: bool, values: Values) -> usize
-    ensures { λ r. ⌜ Appended (line (rowHeading persons (contentsFor values .codes))) (now (out .entry)) at (now (out .exit)) r ⌝ }
+fn put_row_heading(out: &mut [u8], at: usize, persons: bool, contents: Values) -> usize
+    requires { ⌜ contents .«code_count» ≤ permissionLimit ⌝ }
+    ensures { λ r. ⌜ Appended (line (rowHeading persons (contentsFor contents .codes))) (now (out .entry)) at (now (out .exit)) r ⌝ }
 {
     let staffed = text::word(out, at, b"staff");
     let named = put_word(out, staffed, persons, b"person");
-    let coded = put_codes(out, named, values);
+    let coded = put_codes(out, named, contents);
     text::put(out, coded, b'\n')
 }
 
@@ -164,26 +150,28 @@ fn put_row(out: &mut [u8], at: usize, persons: bool, listed: usize, row: Row) ->
 }
 
 // All rows.
-fn put_rows(out: &mut [u8], at: usize, persons: bool, values: Values) -> usize
-    ensures { λ r. ⌜ Appended (rowsText persons values) (now (out .entry)) at (now (out .exit)) r ⌝ }
+fn put_rows(out: &mut [u8], at: usize, persons: bool, contents: Values) -> usize
+    requires { ⌜ contents .«row_count» ≤ rowLimit ⌝ }
+    ensures { λ r. ⌜ Appended (rowsText persons contents) (now (out .entry)) at (now (out .exit)) r ⌝ }
 {
-    let count = values.row_count;
+    let count = contents.row_count;
     let mut next = at;
     let mut i = 0;
     while i < count {
-        next = put_row(out, next, persons, values.code_count, row_in(values, i));
+        next = put_row(out, next, persons, contents.code_count, row_in(contents, i));
         i += 1;
     }
     next
 }
 
 // The policies' heading.
-fn put_policy_heading(out: &mut [u8], at: usize, editions: bool, values: Values) -> usize
-    ensures { λ r. ⌜ Appended (line (policyHeading editions (contentsFor values .codes))) (now (out .entry)) at (now (out .exit)) r ⌝ }
+fn put_policy_heading(out: &mut [u8], at: usize, editions: bool, contents: Values) -> usize
+    requires { ⌜ contents .«code_count» ≤ permissionLimit ⌝ }
+    ensures { λ r. ⌜ Appended (line (policyHeading editions (contentsFor contents .codes))) (now (out .entry)) at (now (out .exit)) r ⌝ }
 {
     let called = text::word(out, at, b"s,d,t");
     let named = put_word(out, called, editions, b"edition");
-    let coded = put_codes(out, named, values);
+    let coded = put_codes(out, named, contents);
     text::put(out, coded, b'\n')
 }
 
@@ -200,14 +188,21 @@ fn put_policy(out: &mut [u8], at: usize, editions: bool, listed: usize, policy: 
 }
 
 // All policies.
-fn put_policies(out: &mut [u8], at: usize, editions: bool, values: Values) -> usize
-    ensures { λ r. ⌜ Appended (policiesText editions values) (now (out .entry)) at (now (out .exit)) r ⌝ }
+fn put_policies(out: &mut [u8], at: usize, editions: bool, contents: Values) -> usize
+    requires { ⌜ contents .«policy_count» ≤ policyLimit ⌝ }
+    ensures { λ r. ⌜ Appended (policiesText editions contents) (now (out .entry)) at (now (out .exit)) r ⌝ }
 {
-    let count = values.policy_count;
+    let count = contents.policy_count;
     let mut next = at;
     let mut i = 0;
     while i < count {
-        next = put_policy(out, next, editions, values.code_count, policy_in(values, i));
+        next = put_policy(
+            out,
+            next,
+            editions,
+            contents.code_count,
+            policy_in(contents, i),
+        );
         i += 1;
     }
     next
@@ -215,16 +210,17 @@ fn put_policies(out: &mut [u8], at: usize, editions: bool, values: Values) -> us
 
 // ---- the table
 
-// The table of these values.
-pub fn put_table(out: &mut [u8], at: usize, values: Values) -> usize
-    ensures { λ r. ⌜ Appended (tableTextOf (contentsFor values)) (now (out .entry)) at (now (out .exit)) r ⌝ }
+// The table of these values, of which no more are meant than their arrays have.
+pub(crate) fn put_table(out: &mut [u8], at: usize, contents: Values) -> usize
+    requires { ⌜ Counted contents ⌝ }
+    ensures { λ r. ⌜ Appended (tableTextOf (contentsFor contents)) (now (out .entry)) at (now (out .exit)) r ⌝ }
 {
-    let form = values.form;
+    let form = contents.form;
     let persons = has_persons(form);
     let editions = has_editions(form);
-    let headed = put_row_heading(out, at, persons, values);
-    let staffed = put_rows(out, headed, persons, values);
+    let headed = put_row_heading(out, at, persons, contents);
+    let staffed = put_rows(out, headed, persons, contents);
     let parted = text::put(out, staffed, b'\n');
-    let asked = put_policy_heading(out, parted, editions, values);
-    put_policies(out, asked, editions, values)
+    let asked = put_policy_heading(out, parted, editions, contents);
+    put_policies(out, asked, editions, contents)
 }
