@@ -12,9 +12,7 @@ use values::Values;
 use values::Wrote;
 ghost use mathlib.Core.Path.{_≡_};
 ghost use mathlib.Core.Bool.{true};
-ghost use Prim.Native.Nat.{_≤_};
-ghost use lib.ListN.{length};
-ghost use Rattle.values.specs.Writing.{longest as Writing·longest};
+ghost use lib.ListN.{take};
 ghost use Rattle.table.specs.Shown.{longest, Shows};
 ghost use Rattle.table.specs.Understood.{tidy};
 ghost use Rattle.table.specs.Making.{enough, wholly, BookOf, MakesOf, Makes};
@@ -23,6 +21,9 @@ ghost use Rattle.table.specs.Making.{enough, wholly, BookOf, MakesOf, Ma
 pub const LONGEST: usize = 8284;
 // So many bytes of a table decide: one more than a table may have.
 pub const ENOUGH: usize = 65537;
+
+// One byte more, to tell a text that is too long.
+const ROOM: usize = 8285;
 
 // What showing a book comes to: so many bytes at the front of the buffer are its table; or they are the `bad` line of a refused book; or the buffer is
 // shorter than a table can be.
@@ -154,17 +155,30 @@ fn all_wrong(what: What) -> Making
     })
 }
 
-// Whether the book is a good one whose table is this text.
-fn is_shown(book: &[u8], text: &[u8]) -> bool
-    ensures { λ r. ⌜ (r ≡ true → BookOf (now (text .entry)) (now (book .entry))) ⌝ }
+// Whether two texts begin with the same bytes, so many of them.
+fn same_front(a: &[u8], b: &[u8], length: usize) -> bool
+    ensures { λ r. ⌜ (r ≡ true → take length (now (a .entry)) ≡ take length (now (b .entry))) ⌝ }
+{
+    if length > a.len() {
+        return false;
+    }
+    if length > b.len() {
+        return false;
+    }
+    same(fit::between(a, 0, length), fit::between(b, 0, length))
+}
+
+// Whether the book is a good one whose table is the text at the front of a buffer.
+fn is_shown(book: &[u8], text: &[u8], length: usize) -> bool
+    ensures { λ r. ⌜ (r ≡ true → BookOf (take length (now (text .entry))) (now (book .entry))) ⌝ }
 {
     let mut table = [0u8; LONGEST];
     match show(book, &mut table) {
-        Shown::Table(length) => {
-            if length > LONGEST {
+        Shown::Table(shown) => {
+            if shown != length {
                 return false;
             }
-            same(&table[0..length], text)
+            same_front(&table, text, shown)
         }
         Shown::Bad(_) => false,
         Shown::TooShort => false,
@@ -172,21 +186,33 @@ fn is_shown(book: &[u8], text: &[u8]) -> bool
 }
 
 // Whether the book is a good one whose table is the plain text as it is understood. What does not fit is left out: a text that fills the buffer
-// may be longer.
+// may be longer, and is none of a book.
 fn is_told(book: &[u8], plain: &[u8]) -> bool
     ensures { λ r. ⌜ (r ≡ true → BookOf (tidy (now (plain .entry))) (now (book .entry))) ⌝ }
 {
-    let mut text = [0u8; LONGEST + 1];
+    let mut text = [0u8; ROOM];
     let length = fit::put_tidy(plain, &mut text);
-    if length > LONGEST {
+    if length >= ROOM {
         return false;
     }
-    is_shown(book, &text[0..length])
+    is_shown(book, &text, length)
+}
+
+// The book, if it is one of the plain text.
+fn copied(book: &[u8], plain: &[u8], out: &mut [u8]) -> Making
+    ensures { λ r. ⌜ MakesOf (tidy (now (plain .entry))) (now (out .entry)) (now (out .exit)) r ⌝ }
+{
+    if book.len() > out.len() {
+        return all_wrong(What::NotUnderstood);
+    }
+    if is_told(book, plain) {
+        return Making::Made(text::word(out, 0, book));
+    }
+    all_wrong(What::NotUnderstood)
 }
 
 // The book of these values, if it is one of the plain text.
 fn written(plain: &[u8], values: Values, out: &mut [u8]) -> Making
-    requires { ⌜ Writing·longest ≤ length (now out) ⌝ }
     ensures { λ r. ⌜ MakesOf (tidy (now (plain .entry))) (now (out .entry)) (now (out .exit)) r ⌝ }
 {
     let mut book = [0u8; values::LONGEST];
@@ -195,20 +221,20 @@ fn written(plain: &[u8], values: Values, out: &mut [u8]) -> Making
             if length > values::LONGEST {
                 return all_wrong(What::NotUnderstood);
             }
-            if !is_told(&book[0..length], plain) {
-                return all_wrong(What::NotUnderstood);
-            }
-            Making::Made(text::word(out, 0, &book[0..length]))
+            copied(&book[0..length], plain, out)
         }
         Wrote::Refused(_, _) => all_wrong(What::NotUnderstood),
     }
 }
 
-// The book of a plain text.
-fn made_of(plain: &[u8], out: &mut [u8]) -> Making
-    requires { ⌜ Writing·longest ≤ length (now out) ⌝ }
-    ensures { λ r. ⌜ MakesOf (tidy (now (plain .entry))) (now (out .entry)) (now (out .exit)) r ⌝ }
+// The book of the plain text at the front of a buffer.
+fn made_of(buffer: &[u8], length: usize, out: &mut [u8]) -> Making
+    ensures { λ r. ⌜ MakesOf (tidy (take length (now (buffer .entry)))) (now (out .entry)) (now (out .exit)) r ⌝ }
 {
+    if length > buffer.len() {
+        return all_wrong(What::NotUnderstood);
+    }
+    let plain = fit::between(buffer, 0, length);
     let draft = parse::parse(plain);
     let found = draft.found;
     match found {
@@ -234,5 +260,5 @@ pub fn make(text: &[u8], out: &mut [u8]) -> Making
     if length >= ENOUGH {
         return all_wrong(What::NotUnderstood);
     }
-    made_of(&plain[0..length], out)
+    made_of(&plain, length, out)
 }

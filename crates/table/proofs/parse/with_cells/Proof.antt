@@ -8,10 +8,10 @@ use Rattle.table.proofs.parse.with_cells.Statement.{statement}
 use Rattle.table.proofs.parse.with_cells.Tie as tie
 
 abbrev Inv-loop : tie.InvT-loop
-Inv-loop draft heading line after₀ column₀ h₀ c₀ after column h c = (h ≤ length heading) × (c ≤ length line)
+Inv-loop heading line after₀ column₀ h₀ c₀ after column h c = (h ≤ length heading) × (c ≤ length line)
 
 abbrev μ-loop : tie.MeasureT-loop
-μ-loop draft heading line after₀ column₀ h₀ c₀ after column h c = (length heading - h) + (length line - c)
+μ-loop heading line after₀ column₀ h₀ c₀ after column h c = (length heading - h) + (length line - c)
 
 pub with-cells-spec : {M : Type 1} → statement M
 with-cells-spec =
