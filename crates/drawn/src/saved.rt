@@ -43,8 +43,12 @@ pub(crate) fn show_name(number: usize) {
         2 => io::write_all(1, b"tabs"),
         3 => io::write_all(1, b"carriage returns"),
         4 => io::write_all(1, b"a column of names"),
-        _ => io::write_all(1, b"semicolons, carriage returns, names and a byte order mark"),
-    };
+        _ => io::write_all(
+            1,
+            b"semicolons, carriage returns, names and a byte order mark",
+        ),
+    }
+    ;
 }
 
 impl Place {
