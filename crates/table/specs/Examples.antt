@@ -1,9 +1,7 @@
 -- Tables of books, by running the definition: book B of 01 in its three forms, a book with nothing but a permission, and one with the least and the
 -- largest numbers; and what is shown of bytes. It pins what definition and code could change together.
 use mathlib.Core.Path.{_≡_, refl}
-use mathlib.Core.List.{List, [], _∷_, _++_, map}
-use Prim.Native.Nat.{ℕ, _+_, _-_, _^_}
-use lib.ListN.{length}
+use mathlib.Core.List.{[], _∷_, _++_}
 use Rattle.sets.specs.Arrays.{tabulate}
 use Rattle.sets.specs.Mask.{bit}
 use Rattle.roster.specs.Refusals.{policyRuling}

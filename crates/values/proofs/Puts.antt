@@ -1,14 +1,14 @@
 -- Laws of what is put: the sections of a book by index, and how long they are. Assumes nothing.
 use mathlib.Core.Path.{_≡_, refl, sym, ap, ap₂, _∙_, fun-ext}
 use mathlib.Core.List.{List, [], _∷_, _++_}
-use Prim.Native.Nat.{ℕ, zero, suc, _+_, _-_, _*_, _%_, _≤_, _<_}
+use Prim.Native.Nat.{ℕ, zero, suc, _+_, _*_, _%_}
 use native.Mathlib.Nat.{mul-suc}
 use native.Mathlib.Omega.{arith}
 use lib.ListN.{length, length-append}
 use Rattle.sets.specs.Arrays.{tabulate}
 use Rattle.sets.specs.Laws.Arrays.{length-tabulate}
 use Rattle.roster.specs.declared.Policy.{Policy}
-use Rattle.book.specs.Layout.{littleEndian, fieldBytes, joined, section, bytesOf, codeWidths, rowWidths, policyWidths, codeFields, rowFields, policyFields, hasPersons, hasEditions, lead}
+use Rattle.book.specs.Layout.{littleEndian, fieldBytes, section, bytesOf, codeWidths, rowWidths, policyWidths, codeFields, rowFields, policyFields, hasPersons, hasEditions, lead}
 use Rattle.book.specs.Reading.{rowsOf, policiesOf, width, front}
 use Rattle.book.specs.Laws.Books.{lead-front}
 use Rattle.book.specs.declared.Form.{Form}

@@ -8,7 +8,6 @@ use lib.ListN.{length, drop}
 use lib.Seq.{sets-eq}
 use Rattle.book.specs.Faults.{faultNumber}
 use Rattle.book.specs.Reading.{readOf}
-use Rattle.book.specs.Parts.{contentsOf}
 use Rattle.book.specs.Promises.{Bytes}
 use Rattle.book.specs.declared.Fault.{Fault}
 use Rattle.book.specs.declared.Starts.{Starts}

@@ -20,7 +20,7 @@ use Rattle.book.specs.Laws.Books as books
 use Rattle.book.specs.Laws.Values.{each, each-both}
 use Rattle.book.specs.Parts.{contentsOf}
 use Rattle.book.specs.Promises.{Bytes}
-use Rattle.book.specs.Reading.{formOf, startsOf, readOf}
+use Rattle.book.specs.Reading.{formOf, startsOf}
 use Rattle.book.specs.declared.Reading.{Reading}
 use Rattle.book.specs.declared.Form.the-variants.{Editions}
 use Rattle.book.specs.declared.Row.{Row}

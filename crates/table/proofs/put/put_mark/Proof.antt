@@ -3,7 +3,7 @@ use mathlib.Core.Path.{_≡_, refl, sym, ap}
 use mathlib.Core.List.{[], _∷_, _++_}
 use Prim.Native.Nat.{ℕ, zero, suc}
 use borrow.Author.Needs.{needs}
-use Rattle.text.specs.Text.{quoted, comma, marked}
+use Rattle.text.specs.Text.{comma, marked}
 use Rattle.text.specs.Laws.Appends.{_then_, read-as}
 use Rattle.table.specs.Table.{mark}
 use Rattle.table.specs.Inner.Puts.{further}
@@ -14,7 +14,7 @@ empty : {digit : ℕ} → digit ≡ 0 → comma ∷ [] ≡ further (mark digit �
 unfolding marked
 empty e = ap (λ (d : ℕ). further (mark d ∷ [])) (sym e)
 
-crossed : (digit : ℕ) → (digit ≡ 0 → ⊥) → (comma ∷ []) ++ quoted "x" ≡ further (mark digit ∷ [])
+crossed : (digit : ℕ) → (digit ≡ 0 → ⊥) → (comma ∷ []) ++ mark 1 ≡ further (mark digit ∷ [])
 unfolding marked
 crossed zero n = absurd (n refl)
 crossed (suc d) n = refl
