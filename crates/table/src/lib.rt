@@ -137,9 +137,6 @@ fn same(a: &[u8], b: &[u8]) -> bool
     }
     let mut i = 0;
     while i < a.len() {
-        if i >= b.len() {
-            return false;
-        }
         if a[i] != b[i] {
             return false;
         }
