@@ -1,6 +1,5 @@
 -- What is written is a book of the table, or nothing is written. Assumes nothing.
 use mathlib.Core.Path.{_≡_, refl, sym, ap, _∙_, subst}
-use mathlib.Core.Logic.{_≢_}
 use mathlib.Core.List.{List, _++_}
 use Prim.Native.Nat.{ℕ, _+_, _-_, _≤_, _<_}
 use native.Mathlib.Decide.{decLt}
@@ -23,7 +22,7 @@ use Rattle.table.specs.declared.Shown.{Shown}
 use Rattle.table.specs.declared.Shown.the-variants as shown
 use Rattle.table.specs.declared.Trouble.{Trouble}
 use Rattle.table.specs.declared.Making.{Making}
-use Rattle.table.specs.declared.Making.the-variants.{Made, Wrong, TooShort}
+use Rattle.table.specs.declared.Making.the-variants.{Made, Wrong}
 
 pub front : (n : ℕ) (l : List ℕ) → between 0 n l ≡ take n l
 front n l =

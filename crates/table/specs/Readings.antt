@@ -1,6 +1,6 @@
 -- As which texts tables are understood, by running the definition. One fact: a change of the definition that can be seen in a text is seen here.
 use mathlib.Core.Path.{_≡_, refl}
-use mathlib.Core.List.{List, [], _∷_, _++_, map}
+use mathlib.Core.List.{List, [], _∷_, map}
 use Prim.Native.Nat.{ℕ}
 use Prim.Native.String.{String}
 use Rattle.text.specs.Text.{quoted, joined, marked}

@@ -1,12 +1,16 @@
 // The book as a table that a spreadsheet opens and saves. specs/Table says which text a book's values have and specs/Shown what is shown of a book;
 // specs/Understood says as which text any table is understood, and specs/Making what is made of it.
+mod cells;
+mod draft;
 mod fit;
 mod parse;
 mod plain;
+mod policies;
 mod put;
+mod rows;
 
 use book::Reading;
-use parse::Found;
+use draft::Found;
 use put::put_table;
 use values::Values;
 use values::Wrote;

@@ -1,5 +1,5 @@
 -- The loop's invariant: what is left to be written is what the lines that are left come to. Assumes nothing.
-use mathlib.Core.Path.{_≡_, ap, _∙_}
+use mathlib.Core.Path.{ap, _∙_}
 use Prim.Native.Nat.{_-_, _≤_}
 use lib.ListN.{length, drop}
 use Rattle.text.specs.Text.{newline}

@@ -1,6 +1,4 @@
 -- Past the end a list has the default. Assumes nothing.
-use mathlib.Core.Path.{sym}
-use lib.ListN.{getD}
 use Rattle.table.proofs.Bytes.{past-0}
 use borrow.Author.Needs.{needs}
 use Rattle.table.proofs.plain.byte_at.Statement.{statement}

@@ -1,10 +1,9 @@
 -- The loop's invariant: what is left to be written is the reading of the bytes that are left. Assumes nothing.
-use mathlib.Core.Path.{_≡_, refl, sym, ap, ap₂, _∙_}
+use mathlib.Core.Path.{_≡_, ap, _∙_}
 use mathlib.Core.Bool.{false}
 use mathlib.Core.List.{List}
 use Prim.Native.Nat.{ℕ, _-_}
 use lib.ListN.{length, drop}
-use Rattle.text.specs.Text.{Appended}
 use Rattle.text.specs.Laws.Appends.{SoFar, begin, step, with-rest, finish, read-as, same}
 use Rattle.table.specs.Understood.{markLength, separatorFrom, plainFrom, plain}
 use Rattle.table.proofs.Bytes.{plain-next, plain-end}

@@ -2,8 +2,8 @@
 use borrow.Author.Needs.{needs}
 use lib.ListN.{length}
 use Prim.Native.Nat.{_≤_, _-_}
-use Rattle.table.proofs.parse.number_of.Statement.{statement}
-use Rattle.table.proofs.parse.number_of.Tie as tie
+use Rattle.table.proofs.cells.number_of.Statement.{statement}
+use Rattle.table.proofs.cells.number_of.Tie as tie
 
 abbrev Inv-loop : tie.InvT-loop
 Inv-loop cell value₀ i₀ value i = i ≤ length cell
