@@ -92,6 +92,11 @@ fn of_row(out: &mut [u8], at: usize, what: What) -> usize {
             b"no person number: it has to be a number of 0 to 4294967295, without spaces and without a 0 in front",
         ),
         What::TooManyRows => text::word(out, at, b"more than 64 rows"),
+        What::NoGap => text::word(
+            out,
+            at,
+            b"an empty line has to stand before the heading of the policies",
+        ),
         _ => of_columns(out, at, what),
     }
 }

@@ -56,6 +56,7 @@ pub enum What {
     StaffOrder,
     Person,
     TooManyRows,
+    NoGap,
     // the policies' heading
     NoAway,
     NoCrews,

@@ -86,6 +86,14 @@ fn last_staff(draft: Draft) -> u32 {
     0
 }
 
+// What is wrong where no staff number stands. Where the policies begin it is the empty line before them that is missing.
+fn no_staff(cell: &[u8]) -> What {
+    if same(cell, b"s") {
+        return What::NoGap;
+    }
+    What::Staff
+}
+
 fn with_staff(draft: Draft, column: usize, cell: &[u8]) -> Draft {
     match number_of(cell) {
         Number::Is(staff) => {
@@ -101,7 +109,7 @@ fn with_staff(draft: Draft, column: usize, cell: &[u8]) -> Draft {
             after.person = staff;
             after
         }
-        Number::Not => draft.wrong(column, What::Staff),
+        Number::Not => draft.wrong(column, no_staff(cell)),
     }
 }
 
