@@ -80,3 +80,8 @@ in_words() { # SHEET WORDS
     verdict=$(printf '%s\n' "$1" | sed -n 1p)
     od -An -v -tu1 "$book" | LC_ALL=C awk -v verdict="$verdict" -v words="$2" -v limit="$limit" -f "$root/bin/fields.awk"
 }
+
+# The words beside a `bad` line. They are unproved and no part of any promise.
+explain() { # LINE [BOOK]
+    printf '%s: %s\n%s: to see it among the fields: bin/book fields %s\n' "$script" "$(in_words "$1" 1)" "$script" "${2:-<BOOK}" >&2
+}

@@ -104,6 +104,10 @@ impl Filling {
         if missing(task, self.held) != 0 {
             return false;
         }
+        // counting members takes time, and the first edition asks for none
+        if least == 0 {
+            return true;
+        }
         sets::size(self.crew) >= least
     }
 

@@ -63,7 +63,7 @@ fn line(
 }
 
 // The line of a refused book, at the front.
-fn bad_line(out: &mut [u8], fault: u32, place: usize) -> usize
+pub fn bad_line(out: &mut [u8], fault: u32, place: usize) -> usize
     ensures { λ r. ⌜ Appended (badLine fault place) (now (out .entry)) 0 (now (out .exit)) r ⌝ }
 {
     let called = text::word(out, 0, b"bad");

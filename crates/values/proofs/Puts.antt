@@ -1,14 +1,14 @@
 -- Laws of what is put: the sections of a book by index, and how long they are. Assumes nothing.
 use mathlib.Core.Path.{_≡_, refl, sym, ap, ap₂, _∙_, fun-ext}
 use mathlib.Core.List.{List, [], _∷_, _++_}
-use Prim.Native.Nat.{ℕ, zero, suc, _+_, _-_, _*_, _%_, _≤_, _<_}
+use Prim.Native.Nat.{ℕ, zero, suc, _+_, _*_, _%_}
 use native.Mathlib.Nat.{mul-suc}
 use native.Mathlib.Omega.{arith}
 use lib.ListN.{length, length-append}
 use Rattle.sets.specs.Arrays.{tabulate}
 use Rattle.sets.specs.Laws.Arrays.{length-tabulate}
 use Rattle.roster.specs.declared.Policy.{Policy}
-use Rattle.book.specs.Layout.{littleEndian, fieldBytes, joined, section, bytesOf, codeWidths, rowWidths, policyWidths, codeFields, rowFields, policyFields, hasPersons, hasEditions, lead}
+use Rattle.book.specs.Layout.{littleEndian, fieldBytes, section, bytesOf, codeWidths, rowWidths, policyWidths, codeFields, rowFields, policyFields, hasPersons, hasEditions, lead}
 use Rattle.book.specs.Reading.{rowsOf, policiesOf, width, front}
 use Rattle.book.specs.Laws.Books.{lead-front}
 use Rattle.book.specs.declared.Form.{Form}
@@ -20,6 +20,7 @@ use Rattle.book.specs.declared.Section.the-variants.{Permissions, Rows, Policie
 use Rattle.values.specs.Values.{rowFor, contentsFor}
 use Rattle.values.specs.Inner.Looks.{countOf, codeIn, rowIn, policyIn}
 use Rattle.values.specs.Inner.Puts.{entryBytes, inOrder, sectionBytes}
+use Rattle.values.specs.Laws.Order.{joined-order}
 use Rattle.values.specs.declared.Values.{Values}
 
 -- one byte, by what it is
@@ -30,42 +31,13 @@ byte e = ap (λ (b : ℕ). b ∷ []) e
 pub low-of : {x y : ℕ} → x ≡ y → x % 256 ≡ y % 256
 low-of e = ap (λ (n : ℕ). n % 256) e
 
--- ---- entries by index
-
--- one more, and the others
-pub order-next : (bytes : ℕ → List ℕ) (i n : ℕ) → i < n → inOrder bytes i (n - i) ≡ bytes i ++ inOrder bytes (i + 1) (n - (i + 1))
-unfolding inOrder
-order-next bytes i n l =
-    let e : n - i ≡ suc (n - (i + 1)) = omega arith in
-    let s : suc i ≡ i + 1 = omega arith in
-    ap (inOrder bytes i) e ∙ ap (λ (k : ℕ). bytes i ++ inOrder bytes k (n - (i + 1))) s
-
-pub order-last : (bytes : ℕ → List ℕ) (i n : ℕ) → n ≤ i → inOrder bytes i (n - i) ≡ []
-unfolding inOrder
-order-last bytes i n l = let e : n - i ≡ 0 = omega arith in ap (inOrder bytes i) e
-
--- the entries of a list are those of its indices
-joined-order : {A : Type 0} (bytes : A → List ℕ) (f : ℕ → A) (k n : ℕ)
-    → joined bytes (tabulate n (λ i. f (k + i))) ≡ inOrder (λ i. bytes (f i)) k n
-unfolding joined tabulate inOrder
-joined-order bytes f k zero = refl
-joined-order {A} bytes f k (suc n) =
-    let first : k + 0 ≡ k = omega arith in
-    ap₂ (λ (a b : List ℕ). a ++ b) (ap (λ (i : ℕ). bytes (f i)) first)
-    (ap (λ (g : ℕ → A). joined bytes (tabulate n g)) (fun-ext (λ i. ap f (shift i))) ∙ joined-order bytes f (suc k) n)
-  where
-    shift : (i : ℕ) → k + suc i ≡ suc k + i
-    shift i = omega arith
+-- ---- the sections
 
 section-order : {A : Type 0} (widths : List ℕ) (fields : A → List ℕ) (f : ℕ → A) (n : ℕ)
     → section widths fields (tabulate n f) ≡ n ∷ inOrder (λ i. fieldBytes widths (fields (f i))) 0 n
-section-order {A} widths fields f n =
+section-order widths fields f n =
     ap₂ (λ (k : ℕ) (l : List ℕ). k ∷ l) (length-tabulate n f)
-    (ap (λ (g : ℕ → A). joined (λ x. fieldBytes widths (fields x)) (tabulate n g)) (fun-ext (λ i. ap f (from i)))
-    ∙ joined-order (λ x. fieldBytes widths (fields x)) f 0 n)
-  where
-    from : (i : ℕ) → i ≡ 0 + i
-    from i = omega arith
+    (joined-order (λ x. fieldBytes widths (fields x)) f n)
 
 -- the fields that a form has are the row's own
 fields-for : (form : Form) (row : Row) → rowFields (hasPersons form) (rowFor form row) ≡ rowFields (hasPersons form) row

@@ -9,3 +9,4 @@ pub mod Numbers
 -- what that stands on
 pub mod First
 pub mod Policies
+pub mod Order

@@ -143,7 +143,7 @@ fn said(book: &[u8], out: &mut [u8]) -> usize {
 
 fn main() {
     let mut book = [0u8; lines::ENOUGH];
-    match input::read_book(&mut book) {
+    match input::read_all(&mut book) {
         Progress::Whole(size) => {
             let mut out = [0u8; ROOM];
             let length = said(front(&book, size), &mut out);

@@ -14,22 +14,21 @@ use borrow.Author.Needs.{needs, sfits-of}
 use borrow.Author.Tests.{ltb-true, ltb-false}
 use borrow.Rule.Slice.PartMut.{take-put, mid-len}
 use Rattle.libc.specs.Io.{Moved}
-use Rattle.lines.specs.Sheet.{enough}
 use Rattle.input.specs.Input.{grownBy, afterRead, Onward}
 use Rattle.input.specs.declared.Progress.the-variants.{Whole, More}
 use Rattle.input.proofs.read_on.Statement.{statement}
 use Rattle.input.proofs.read_on.Tie as tie
 
 -- what a read's answer says goes on from where the input stood
-by-room : (have there : ℕ) → have < there → there ≤ enough → (b : Bool) → ltb there enough ≡ b → Onward have (elim b [ true ↦ More there | false ↦ Whole there ])
-by-room have there more fits true e = (more, ltb-true there enough e)
-by-room have there more fits false e = inr (omega (arith, ltb-false there enough e))
+by-room : (room have there : ℕ) → have < there → there ≤ room → (b : Bool) → ltb there room ≡ b → Onward room have (elim b [ true ↦ More there | false ↦ Whole there ])
+by-room room have there more fits true e = (more, ltb-true there room e)
+by-room room have there more fits false e = inr (omega (arith, ltb-false there room e))
 
-goes-on : (have : ℕ) (got : ℤ) → have ≤ enough → Moved (enough - have) got → Onward have (afterRead have got)
+goes-on : (room have : ℕ) (got : ℤ) → have ≤ room → Moved (room - have) got → Onward room have (afterRead room have got)
 unfolding afterRead grownBy
-goes-on have (pos zero) h m = inl refl
-goes-on have (pos (suc k)) h m = by-room have (have + suc k) (omega arith) (omega arith) (ltb (have + suc k) enough) refl
-goes-on have (negsuc k) h m = tt
+goes-on room have (pos zero) h m = inl refl
+goes-on room have (pos (suc k)) h m = by-room room have (have + suc k) (omega arith) (omega arith) (ltb (have + suc k) room) refl
+goes-on room have (negsuc k) h m = tt
 
 sub-read : tie.Need-sub-read
 sub-read c = search needs
@@ -44,12 +43,11 @@ read-requires : tie.Need-read-requires
 read-requires c κs = search needs
 
 -- the answer is within the room behind the bytes that are there, and is what is read back of it
-in-room : (c : tie.After-read) → Moved (enough - c .before .before .before .args .have) (c .read .result)
+in-room : (c : tie.After-read) → let a = c .before .before .before .args in Moved (length (a .buffer .now) - a .have) (c .read .result)
 in-room c =
     let s = c .before .before .before in
-    let book = s .args .book .now in
-    let long : length book - s .args .have ≡ enough - s .args .have = ap (λ (n : ℕ). n - s .args .have) (s .pre .0) in
-    subst (λ (n : ℕ). Moved n (c .read .result)) (mid-len (s .args .have) (length book) book (omega arith) ∙ long) (c .read .ensures)
+    let buffer = s .args .buffer .now in
+    subst (λ (n : ℕ). Moved n (c .read .result)) (mid-len (s .args .have) (length buffer) buffer (omega arith)) (c .read .ensures)
 
 back : (c : tie.After-read) → toZ w64 (ofZ w64 (c .read .result)) ≡ c .read .result
 back c = toZ-ofZ (sfits-of (c .read .ok))
@@ -58,7 +56,7 @@ after-read-requires : tie.Need-after-read-requires
 after-read-requires c κs =
     let r = c .before .before in
     let s = r .before .before .before in
-    (omega (arith, s .pre .1), subst (λ (z : ℤ). Moved (enough - s .args .have) z) (sym (back r)) (in-room r))
+    (s .pre, subst (λ (z : ℤ). Moved (length (s .args .buffer .now) - s .args .have) z) (sym (back r)) (in-room r))
 
 same-length : tie.Need-same-length
 same-length c = search needs
@@ -68,10 +66,11 @@ returns c =
     let r = c .before .before .before in
     let s = r .before .before .before in
     let have = s .args .have in
+    let room = length (s .args .buffer .now) in
     record {
-      kept = take-put have (length (s .args .book .now) - have) (s .args .book .now) (r .read .last .1 .0) (omega (arith, s .pre .0, s .pre .1));
+      kept = take-put have (room - have) (s .args .buffer .now) (r .read .last .1 .0) (omega (arith, s .pre));
       long = same-length c;
-      onward = subst (Onward have) (sym (c .after-read .ensures ∙ ap (afterRead have) (back r))) (goes-on have (r .read .result) (omega (arith, s .pre .1)) (in-room r));
+      onward = subst (Onward room have) (sym (c .after-read .ensures ∙ ap (afterRead room have) (back r))) (goes-on room have (r .read .result) (s .pre) (in-room r));
     }
 
 pub read-on-spec : {M : Type 1} → statement M

@@ -66,11 +66,11 @@ use Rattle.sets.specs.Laws.Unions.{onesOf, Disjoint, disjoint-few}
 -- ---- how long lists are written
 
 -- the items, each with a mark
-unfoldable total : List (List ℕ) → ℕ
+unfoldable pub total : List (List ℕ) → ℕ
 total [] = 0
 total (x ∷ l) = 1 + length x + total l
 
-marked-length : (mark between : ℕ) (l : List (List ℕ)) → length (marked mark between l) ≡ total l
+pub marked-length : (mark between : ℕ) (l : List (List ℕ)) → length (marked mark between l) ≡ total l
 unfolding marked total
 marked-length mark between [] = refl
 marked-length mark between (x ∷ l) =
@@ -258,36 +258,38 @@ module _ (book : List ℕ) (bytes : Bytes book) where
         lines-fit n (suc index) (omega arith),
       )
 
-  -- ---- the line of a refused book: its first 1,093 bytes decide, and its place is none past them
+-- ---- the line of a refused book: its first 1,093 bytes decide, and its place is none past them
 
-  place-early : (f : Fault) (at : ℕ) → readOf book ≡ read.Refused f at → at < 10000
-  place-early f at e =
-      omega (arith, refused-place (take 1093 book) f at (sym (prefix-reply book) ∙ e), length-take 1093 book)
+place-early : (book : List ℕ) (f : Fault) (at : ℕ) → readOf book ≡ read.Refused f at → at < 10000
+place-early book f at e =
+    omega (arith, refused-place (take 1093 book) f at (sym (prefix-reply book) ∙ e), length-take 1093 book)
 
-  refusal-few : (r : Refusal) → numberOf r < 100
-  refusal-few refusal.Rows = omega arith
-  refusal-few refusal.Task = omega arith
-  refusal-few refusal.Away = omega arith
-  refusal-few refusal.Crews = omega arith
-  refusal-few refusal.Size = omega arith
-  refusal-few refusal.Absence = omega arith
-  refusal-few refusal.Edition = omega arith
+refusal-few : (r : Refusal) → numberOf r < 100
+refusal-few refusal.Rows = omega arith
+refusal-few refusal.Task = omega arith
+refusal-few refusal.Away = omega arith
+refusal-few refusal.Crews = omega arith
+refusal-few refusal.Size = omega arith
+refusal-few refusal.Absence = omega arith
+refusal-few refusal.Edition = omega arith
 
-  fault-few : (f : Fault) → faultNumber f < 100
-  fault-few Short = omega arith
-  fault-few Permissions = omega arith
-  fault-few Code = omega arith
-  fault-few Rows = omega arith
-  fault-few Staff = omega arith
-  fault-few Holdings = omega arith
-  fault-few Policies = omega arith
-  fault-few Task = omega arith
-  fault-few (PolicyFault refusal) = refusal-few refusal
-  fault-few Excess = omega arith
+fault-few : (f : Fault) → faultNumber f < 100
+fault-few Short = omega arith
+fault-few Permissions = omega arith
+fault-few Code = omega arith
+fault-few Rows = omega arith
+fault-few Staff = omega arith
+fault-few Holdings = omega arith
+fault-few Policies = omega arith
+fault-few Task = omega arith
+fault-few (PolicyFault refusal) = refusal-few refusal
+fault-few Excess = omega arith
 
-  bad-fits : (f : Fault) (at : ℕ) → at < 10000 → length (badLine (faultNumber f) at) ≤ longest
-  unfolding badLine joined marked
-  bad-fits f at h = simp length-append (omega (arith, decimal-length 1 (faultNumber f) (fault-few f), decimal-length 3 at h))
+-- it has at most 12 bytes
+pub bad-short : (book : List ℕ) (f : Fault) (at : ℕ) → readOf book ≡ read.Refused f at → length (badLine (faultNumber f) at) ≤ 12
+unfolding badLine joined marked
+bad-short book f at e =
+    simp length-append (omega (arith, decimal-length 1 (faultNumber f) (fault-few f), decimal-length 3 at (place-early book f at e)))
 
 -- no sheet of a byte string is longer
 pub sheet-fits : (book : List ℕ) → Bytes book → length (sheetOf book) ≤ longest
@@ -303,4 +305,4 @@ sheet-fits book bytes = ⊎-elim good refused (reply book)
 
     refused : books.Refused book → length (sheetOf book) ≤ longest
     refused r =
-        omega (arith, bad-fits book bytes (r .fault) (r .place) (place-early book bytes (r .fault) (r .place) (r .reply)), ap (λ (q : Reading). length (sheetBy book q)) (r .reply))
+        omega (arith, bad-short book (r .fault) (r .place) (r .reply), ap (λ (q : Reading). length (sheetBy book q)) (r .reply))

@@ -16,7 +16,7 @@ use Rattle.book.specs.declared.Form.{Form}
 use Rattle.lines.specs.Sheet.{sheetBy, sheetOf, enough}
 
 -- a book without fault is no longer than its counts allow, in every form
-sound-short : (form : Form) (book : List ℕ) → BookSound form book → length book ≤ 1092
+pub sound-short : (form : Form) (book : List ℕ) → BookSound form book → length book ≤ 1092
 unfolding past
 sound-short form book s =
     let listed : countAt book (front form) ≤ 32 = inside 32 (countAt book (front form)) (s .first .inRange) .1 in
@@ -25,7 +25,7 @@ sound-short form book s =
     omega (arith, s .ends, near-front form, near-row form (countAt book (rowsAt form book)) many, near-policy form (countAt book (policiesAt form book)) asked)
 
 -- the reply to a front of at least 1093 bytes
-front-reply : (n : ℕ) (book : List ℕ) → 1093 ≤ n → readOf (take n book) ≡ readOf book
+pub front-reply : (n : ℕ) (book : List ℕ) → 1093 ≤ n → readOf (take n book) ≡ readOf book
 front-reply n book h = prefix-reply (take n book) ∙ ap readOf (take-take 1093 n book h) ∙ sym (prefix-reply book)
 
 -- the sheet of any string is that of its front

@@ -10,11 +10,13 @@ use denote.Enum.Declared.{tagOf}
 use Rattle.lines.specs.declared.Writing.{Writing}
 use Rattle.lines.specs.declared.Writing.the-variants.{Written, TooShort}
 use Rattle.lines.specs.Sheet.{sheetOf, longest, Promised}
-use Rattle.sheet.specs.declared.Said.{Said}
 use Rattle.input.specs.declared.Progress.{Progress}
 use Rattle.input.specs.declared.Progress.the-variants.{Failed, Whole, More}
 use Rattle.input.specs.Input.{Settled}
-use Rattle.sheet.specs.Said.{output, errors, unreadable, streamOf, textOf, Says}
+use Rattle.output.specs.declared.Said.{Said}
+use Rattle.output.specs.Says.{output, errors, Says}
+use Rattle.output.specs.Laws.{all-said}
+use Rattle.sheet.specs.Said.{unreadable, streamOf, textOf}
 use Rattle.input.proofs.Progress.{the-type}
 use borrow.Author.Needs.{needs}
 use Rattle.sheet.proofs.answer.Statement.{statement}
@@ -61,7 +63,9 @@ same-length : tie.Need-same-length
 same-length c = search needs
 
 returns : tie.Need-returns
-returns c = complains _ _ _ _ _ (c .before .before .before .before .before .match .keys2) (c .before .before .complaint .ensures)
+returns c =
+    let m = c .before .before .before .before .before in
+    complains _ _ _ _ _ (m .match .keys2) (all-said unreadable (omega (arith, m .before .before .before .pre .1)) (c .before .before .complaint .ensures .0))
 
 slice-aggregate-sheet : tie.Need-slice-aggregate-sheet
 slice-aggregate-sheet c = sym (length-take-le _ _ (size-fits (c .before .before)))

@@ -1,13 +1,8 @@
--- Each buffer is as long as the next step asks, and what is said stands within it. Assumes nothing.
-use mathlib.Core.Path.{ap}
-use mathlib.Core.List.{List}
+-- Each buffer is as long as the next step asks. Assumes nothing.
 use Prim.Native.Nat.{ℕ, _≤_}
 use native.Mathlib.Omega.{arith}
-use lib.IntN.{ℤ}
-use lib.ListN.{length, drop, replicate, length-append, length-replicate}
+use lib.ListN.{length, replicate, length-replicate}
 use Rattle.lines.specs.Sheet.{longest}
-use Rattle.sheet.specs.declared.Said.{Said}
-use Rattle.sheet.specs.Said.{Says}
 use borrow.Author.Needs.{needs}
 use Rattle.sheet.proofs.main.Statement.{statement}
 use Rattle.sheet.proofs.main.Tie as tie
@@ -15,11 +10,11 @@ use Rattle.sheet.proofs.main.Tie as tie
 long : longest ≤ length {A = ℕ} (replicate longest 0)
 long = omega (arith, length-replicate {A = ℕ} longest 0)
 
-stands : (stream : ℤ) (text old new : List ℕ) (r : Said) → Says stream text old new r → r .length ≤ length new
-stands stream text old new r s = omega (arith, s .long, ap length (s .front), length-append text (drop (length text) old))
+slice-aggregate-read-all : tie.Need-slice-aggregate-read-all
+slice-aggregate-read-all c = search needs
 
-read-book-requires : tie.Need-read-book-requires
-read-book-requires c κs = search needs
+read-all-requires : tie.Need-read-all-requires
+read-all-requires c κs = search needs
 
 slice-aggregate-answer : tie.Need-slice-aggregate-answer
 slice-aggregate-answer c = search needs
@@ -28,25 +23,28 @@ slice-aggregate-answer-2 : tie.Need-slice-aggregate-answer-2
 slice-aggregate-answer-2 c = search needs
 
 answer-requires : tie.Need-answer-requires
-answer-requires c κs = (c .before .before .read-book .ensures .0, long)
+answer-requires c κs = (c .before .before .before .read-all .ensures .0, long)
 
-slice-aggregate-write : tie.Need-slice-aggregate-write
-slice-aggregate-write c = search needs
+slice-aggregate-written : tie.Need-slice-aggregate-written
+slice-aggregate-written c = search needs
 
-write-requires : tie.Need-write-requires
-write-requires c κs = stands _ _ _ _ _ (c .before .before .answer .ensures)
+written-requires : tie.Need-written-requires
+written-requires c κs = search needs
 
-slice-aggregate-unwritten : tie.Need-slice-aggregate-unwritten
-slice-aggregate-unwritten c = search needs
+slice-aggregate-complaint : tie.Need-slice-aggregate-complaint
+slice-aggregate-complaint c = search needs
 
-unwritten-requires : tie.Need-unwritten-requires
-unwritten-requires c κs = search needs
+slice-aggregate-complaint-2 : tie.Need-slice-aggregate-complaint-2
+slice-aggregate-complaint-2 c = search needs
 
-slice-aggregate-write-2 : tie.Need-slice-aggregate-write-2
-slice-aggregate-write-2 c = search needs
+complaint-requires : tie.Need-complaint-requires
+complaint-requires c κs = search needs
 
-write-requires-2 : tie.Need-write-requires-2
-write-requires-2 c κs = search needs
+slice-aggregate-written-2 : tie.Need-slice-aggregate-written-2
+slice-aggregate-written-2 c = search needs
+
+written-requires-2 : tie.Need-written-requires-2
+written-requires-2 c κs = search needs
 
 returns : tie.Need-returns
 returns c = search needs
@@ -58,15 +56,17 @@ pub main-spec : {M : Type 1} → statement M
 main-spec =
     tie.close
     (tie.spec
-    read-book-requires
+    slice-aggregate-read-all
+    read-all-requires
     slice-aggregate-answer
     slice-aggregate-answer-2
     answer-requires
-    slice-aggregate-write
-    write-requires
-    slice-aggregate-unwritten
-    unwritten-requires
-    slice-aggregate-write-2
-    write-requires-2
+    slice-aggregate-written
+    written-requires
+    slice-aggregate-complaint
+    slice-aggregate-complaint-2
+    complaint-requires
+    slice-aggregate-written-2
+    written-requires-2
     returns
     returns-2)

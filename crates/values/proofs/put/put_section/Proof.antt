@@ -9,7 +9,8 @@ use Rattle.book.specs.declared.Section.the-variants.{Permissions, Rows, Policie
 use Rattle.text.specs.Laws.Appends.{SoFar, begin, step, with-rest, finish, same, read-as, _then_}
 use Rattle.values.specs.Inner.Looks.{limitIn}
 use Rattle.values.specs.Inner.Puts.{entryBytes, inOrder}
-use Rattle.values.proofs.Puts.{byte, order-next, order-last}
+use Rattle.values.specs.Laws.Order.{order-next, order-last}
+use Rattle.values.proofs.Puts.{byte}
 use Rattle.values.proofs.put.put_section.Statement.{statement}
 use Rattle.values.proofs.put.put_section.Tie as tie
 
