@@ -1,5 +1,6 @@
 // A live roster at a terminal: calls and questions as lines of text on standard input, an answer to each on standard output. `bin/roster` runs it;
 // its argument, if there is one, is a book, with whose roster it begins.
+#![tactic(auto)]
 mod asked;
 mod board;
 mod books;

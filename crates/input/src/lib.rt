@@ -1,5 +1,6 @@
 // Reading standard input into a lent buffer, as the programs do that take a book or a table. What a read does to the buffer is assumed; what is made
 // of its answer is said here, read by read.
+#![tactic(auto)]
 ghost use Rattle.std.specs.Prelude.{◌≡◌, ◌+◌, ◌-◌, ◌≤◌, length};
 ghost use Rattle.libc.specs.Io.{Moved};
 ghost use Rattle.input.specs.Input.{grown_by, after_read, OneRead, Settled};

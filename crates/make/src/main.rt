@@ -1,6 +1,7 @@
 // The program: a table from standard input, as a spreadsheet saves it, and its roster book to standard output. Where there is none, nothing but one
 // line on standard error, which says what is wrong with the table and where. Which books are made of which tables is said in `table`, and which bytes
 // go to which stream in specs/Said; the words are this program's and no part of that.
+#![tactic(auto)]
 mod words;
 
 ghost use Rattle.std.specs.Prelude.{◌≤◌, length};

@@ -1,4 +1,5 @@
 // What the programs say: so many bytes at the front of a buffer, to a stream. What a write does is libc's own contract, which is assumed.
+#![tactic(auto)]
 ghost use Rattle.std.specs.Prelude.{◌≡◌};
 ghost use Rattle.text.specs.Text.{fitting};
 ghost use Rattle.output.specs.Says.{errors, Says};

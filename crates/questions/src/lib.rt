@@ -1,6 +1,7 @@
 // The questions, asked of accounts: these are the doors for callers. What is refused of the accounts is refused here; then the persons are made,
 // and the question is asked of their table by the crates below, where a row is a person: sets, ranks, sizes, absences and the blocker speak of
 // persons.
+#![tactic(auto)]
 ghost use Rattle.absences.specs.Tried.{full, skipping};
 ghost use Rattle.questions.specs.Asked.{PolicyAskedFor, NamedAskedFor};
 

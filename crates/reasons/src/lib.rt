@@ -1,6 +1,7 @@
 // Why a named absence blocks, asked of accounts: whether to train, to enlarge crews or to hire. The named question is asked first, and its refusal,
 // its units and whether it decides at all are this one's too; only where it finds no crews is a reason looked for. What the reasons are stands in
 // specs/Reasons, without any search.
+#![tactic(auto)]
 ghost use Rattle.std.specs.Prelude.{◌≡◌, ◌<◌};
 ghost use Rattle.std.specs.Int.Bits.{bit_and};
 ghost use Rattle.sets.specs.Arrays.{at};

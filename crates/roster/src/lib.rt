@@ -1,5 +1,7 @@
 // The values that every question is asked with and answered by: the table of who holds what, the policy with its limits, the refusals
 // and the reply. What they mean stands in specs/: Meaning is the law that a "yes" or a "no" is held to, and it knows nothing of a search.
+#![tactic(auto)]
+
 ghost use Rattle.std.specs.Prelude.{◌≡◌, ◌^◌, leb};
 ghost use Rattle.roster.specs.Limits.{row_limit, away_limit, crew_limit, size_limit, edition_limit};
 ghost use Rattle.roster.specs.Meaning.{least_members};
@@ -85,8 +87,11 @@ impl Policy {
     // The policy, or the first of its own faults.
     pub fn new(task: u32, away: u32, crews: usize, size: u32, edition: u32) -> Made
         ensures made { result ≡ made_of task away crews size edition }
-        ensures* limits { do ⌜ ((← (⟦Policy::ROWS⟧).entry) ≡ row_limit) × ((← (⟦Policy::AWAY⟧).entry) ≡ away_limit) × ((← (⟦Policy::CREWS⟧).entry) ≡ crew_limit) × ((← (⟦Policy::SIZE⟧).entry) ≡ size_limit) ⌝ }
-        ensures* editions { do ⌜ (← (⟦Policy::EDITIONS⟧).entry) ≡ edition_limit ⌝ }
+        ensures rows { Policy.ROWS ≡ row_limit }
+        ensures away { Policy.AWAY ≡ away_limit }
+        ensures crews { Policy.CREWS ≡ crew_limit }
+        ensures size { Policy.SIZE ≡ size_limit }
+        ensures editions { Policy.EDITIONS ≡ edition_limit }
     {
         match first_fault(0, task, away, crews, size, edition) {
             Ruling::Admitted => Made::Policy(Policy {
@@ -194,6 +199,7 @@ impl Refusal {
 }
 
 // How many members a crew has at least under this edition.
+#[tactic(auto, unfolding(crate::specs::Meaning::least_members))]
 pub fn least_members(edition: u32) -> u32
     ensures { result ≡ least_members edition }
 {
@@ -204,6 +210,7 @@ pub fn least_members(edition: u32) -> u32
 }
 
 // The first fault of these numbers.
+#[tactic(auto, unfolding(crate::specs::Refusals::policy_ruling))]
 fn first_fault(rows: usize, task: u32, away: u32, crews: usize, size: u32, edition: u32) -> Ruling
     ensures { result ≡ policy_ruling rows task away crews size edition }
 {

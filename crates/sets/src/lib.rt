@@ -1,5 +1,7 @@
 // A mask is a set: bit i of the mask says whether i is a member. What sets are stands in specs/Mask.antt and specs/Members.antt, the laws of
 // them in specs/Laws/; here are the few functions that the crates above call.
+#![tactic(auto)]
+
 ghost use Rattle.std.specs.Prelude.{◌≡◌, ◌-◌, ◌^◌, min};
 ghost use Rattle.std.specs.Int.Count.{ones, count_trailing_zeros};
 

@@ -1,5 +1,7 @@
 // Appending text at a place of a lent buffer: bytes, words and numbers in decimal. Each function writes what its definition in specs/ says, touches
 // nothing else, and answers the place after it. What does not fit is left out: a caller who knows that there is room knows that all stands there.
+#![tactic(auto)]
+
 ghost use Rattle.std.specs.Prelude.{◌≡◌, [], ◌∷◌, ◌<◌};
 ghost use Rattle.text.specs.Text.{Appended};
 ghost use Rattle.text.specs.Text.{decimal as Text·decimal, digit as Text·digit};
@@ -18,7 +20,7 @@ pub fn put(out: &mut [u8], at: usize, byte: u8) -> usize
 // The bytes of a word.
 pub fn word(out: &mut [u8], at: usize, bytes: &[u8]) -> usize
     ensures appended { Appended bytes.now out.old at out.new result }
-    ensures kept { bytes.now ≡ bytes.now }
+    ensures kept { bytes.exit.now ≡ bytes.entry.now }
 {
     let mut next = at;
     let mut i = 0;

@@ -3,6 +3,7 @@
 // asks, and compares. It prints how many comparisons of each kind it made and how many differ, which has to be none; then, of wrong replies that it
 // plants, how many the comparisons find, which has to be all. Of a kind that differs the first difference is shown. The live roster is held against a
 // plain list in the same way.
+#![tactic(auto)]
 mod afternoon;
 mod brute;
 mod compare;
