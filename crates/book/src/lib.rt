@@ -183,7 +183,7 @@ pub enum Place {
 // The form, of any bytes.
 pub fn form_of(book: &[u8]) -> Form
     ensures reply { result ≡ form_of book.now }
-    ensures kept { book.now ≡ book.now }
+    ensures kept { book.exit.now ≡ book.entry.now }
 {
     let first = count_at(book, 0);
     if first == PERSONS {
@@ -240,7 +240,7 @@ fn read_rows(book: &[u8], form: Form, rows: usize) -> Reading
 // The reply to a book.
 pub fn read(book: &[u8]) -> Reading
     ensures reply { result ≡ read_of book.now }
-    ensures kept { book.now ≡ book.now }
+    ensures kept { book.exit.now ≡ book.entry.now }
 {
     let form = form_of(book);
     match section_step(book, form, Section::Permissions, 0, form.front()) {
@@ -254,7 +254,7 @@ pub fn read(book: &[u8]) -> Reading
 // Where the sections are taken to start, of a refused book too: at its end, where no count stands, so that it has no parts.
 pub fn starts_in(book: &[u8]) -> Starts
     ensures reply { result ≡ starts_in book.now }
-    ensures kept { book.now ≡ book.now }
+    ensures kept { book.exit.now ≡ book.entry.now }
 {
     match read(book) {
         Reading::Good(starts) => starts,
@@ -284,7 +284,7 @@ fn place_of(book: &[u8], form: Form, section: Section, start: usize, i: usize) -
 // How many permissions a book lists; a refused one has none.
 pub fn code_count(book: &[u8]) -> usize
     ensures reply { result ≡ code_count_of book.now }
-    ensures kept { book.now ≡ book.now }
+    ensures kept { book.exit.now ≡ book.entry.now }
 {
     let starts = starts_in(book);
     count_at(book, starts.permissions)
@@ -293,7 +293,7 @@ pub fn code_count(book: &[u8]) -> usize
 // The i-th code of a book whose sections start here.
 pub fn code_at(book: &[u8], starts: Starts, i: usize) -> Coded
     ensures reply { result ≡ code_at book.now starts i }
-    ensures kept { book.now ≡ book.now }
+    ensures kept { book.exit.now ≡ book.entry.now }
 {
     match place_of(
         book,
@@ -310,7 +310,7 @@ pub fn code_at(book: &[u8], starts: Starts, i: usize) -> Coded
 // A row of a book whose sections start here.
 pub fn row_at(book: &[u8], starts: Starts, row: usize) -> Seen
     ensures reply { result ≡ row_at book.now starts row }
-    ensures kept { book.now ≡ book.now }
+    ensures kept { book.exit.now ≡ book.entry.now }
 {
     let form = form_of(book);
     match place_of(book, form, Section::Rows, starts.rows, row) {
@@ -357,7 +357,7 @@ fn accounts_at(book: &[u8], starts: Starts) -> Accounts
 // The accounts of a book; a refused one has no rows.
 pub fn accounts_of(book: &[u8]) -> Accounts
     ensures reply { result ≡ accounts_in book.now }
-    ensures kept { book.now ≡ book.now }
+    ensures kept { book.exit.now ≡ book.entry.now }
 {
     let starts = starts_in(book);
     accounts_at(book, starts)
@@ -366,7 +366,7 @@ pub fn accounts_of(book: &[u8]) -> Accounts
 // How many policies a book has; a refused one has none.
 pub fn policy_count(book: &[u8]) -> usize
     ensures reply { result ≡ policy_count_of book.now }
-    ensures kept { book.now ≡ book.now }
+    ensures kept { book.exit.now ≡ book.entry.now }
 {
     let starts = starts_in(book);
     count_at(book, starts.policies)
@@ -375,7 +375,7 @@ pub fn policy_count(book: &[u8]) -> usize
 // The i-th policy of the section that starts here.
 pub fn policy_in(book: &[u8], start: usize, i: usize) -> Listed
     ensures reply { result ≡ policy_in book.now start i }
-    ensures kept { book.now ≡ book.now }
+    ensures kept { book.exit.now ≡ book.entry.now }
 {
     let form = form_of(book);
     match place_of(book, form, Section::Policies, start, i) {
@@ -390,7 +390,7 @@ pub fn policy_in(book: &[u8], start: usize, i: usize) -> Listed
 // The i-th policy of a book; a refused one has none.
 pub fn policy_at(book: &[u8], i: usize) -> Listed
     ensures reply { result ≡ policy_at book.now i }
-    ensures kept { book.now ≡ book.now }
+    ensures kept { book.exit.now ≡ book.entry.now }
 {
     let starts = starts_in(book);
     policy_in(book, starts.policies, i)
@@ -408,7 +408,7 @@ pub struct Book<'a> {
 // Reads the book once.
 pub fn view<'a>(bytes: &'a [u8]) -> Book<'a>
     ensures reply { ViewOf bytes.entry result }
-    ensures kept { bytes.now ≡ bytes.now }
+    ensures kept { bytes.exit.now ≡ bytes.entry.now }
 {
     Book {
         bytes,
@@ -427,7 +427,7 @@ pub fn row_of<'a>(book: Book<'a>, row: usize) -> Seen
 // A row of these bytes, for a caller that keeps no view.
 pub fn row_by_number(bytes: &[u8], row: usize) -> Seen
     ensures reply { result ≡ row_by_number bytes.now row }
-    ensures kept { bytes.now ≡ bytes.now }
+    ensures kept { bytes.exit.now ≡ bytes.entry.now }
 {
     row_of(view(bytes), row)
 }

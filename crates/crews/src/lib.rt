@@ -282,7 +282,7 @@ pub fn fill(
     allowance: u32,
 ) -> Filled
     ensures value { result ≡ filled_of allowance spent (found_from (orderly (at holds.now) (at holders.now) task crews size least) free) }
-    ensures kept { (holds.now ≡ holds.now) × (holders.now ≡ holders.now) }
+    ensures kept { (holds.exit.now ≡ holds.entry.now) × (holders.exit.now ≡ holders.entry.now) }
 {
     if spent > allowance {
         return Filled::without_crews(Ending::Undecided, allowance);
@@ -347,7 +347,7 @@ fn holders_at(holds: &[u32; Policy::ROWS], permission: usize) -> u64
 // For each permission the rows that hold it.
 pub fn holders_of(holds: &[u32; Policy::ROWS]) -> [u64; 32]
     ensures value { result ≡ tabulate 32 (holders_of (at holds.now)) }
-    ensures kept { holds.now ≡ holds.now }
+    ensures kept { holds.exit.now ≡ holds.entry.now }
 {
     let mut holders = [0u64; 32];
     let mut permission: usize = 0;

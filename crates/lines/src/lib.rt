@@ -131,7 +131,7 @@ fn all_lines(book: &[u8], out: &mut [u8]) -> usize
 // The sheet of a book at the front of a buffer that is long enough for any.
 pub fn sheet(book: &[u8], out: &mut [u8]) -> Writing
     ensures sheet { Promised book.now out.old out.new result }
-    ensures kept { book.now ≡ book.now }
+    ensures kept { book.exit.now ≡ book.entry.now }
     ensures limits { (LONGEST ≡ longest) × (ENOUGH ≡ enough) × (ALLOWANCE ≡ allowance) }
 {
     if out.len() < LONGEST {

@@ -14,7 +14,7 @@ pub struct Said {
 // A complaint, which goes to standard error. What the buffer has no room for is left out.
 pub fn complaint(words: &[u8], out: &mut [u8]) -> Said
     ensures said { Says errors (fitting words.now out.old 0) out.old out.new result }
-    ensures kept { words.now ≡ words.now }
+    ensures kept { words.exit.now ≡ words.entry.now }
 {
     let length = text::word(out, 0, words);
     Said {
@@ -34,7 +34,7 @@ fn front(bytes: &[u8], length: usize) -> &[u8] {
 
 // Writes what is said, and answers whether all of it was written.
 pub fn written(said: Said, out: &[u8]) -> bool
-    ensures kept { out.now ≡ out.now }
+    ensures kept { out.exit.now ≡ out.entry.now }
 {
     io::write_all(said.stream, front(out, said.length))
 }

@@ -120,7 +120,7 @@ struct Turn {
 // The table of a book at the front of a buffer that is long enough for any.
 pub fn show(book: &[u8], out: &mut [u8]) -> Shown
     ensures shown { Shows book.now out.old out.new result }
-    ensures kept { book.now ≡ book.now }
+    ensures kept { book.exit.now ≡ book.entry.now }
     ensures limit { LONGEST ≡ longest }
 {
     if out.len() < LONGEST {
@@ -253,7 +253,7 @@ fn made_of(buffer: &[u8], length: usize, out: &mut [u8]) -> Making
 // The book of a table at the front of a buffer that is long enough for any.
 pub fn make(text: &[u8], out: &mut [u8]) -> Making
     ensures made { Makes text.now out.old out.new result }
-    ensures kept { text.now ≡ text.now }
+    ensures kept { text.exit.now ≡ text.entry.now }
     ensures limit { ENOUGH ≡ enough }
 {
     if out.len() < values::LONGEST {

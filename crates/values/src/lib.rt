@@ -89,7 +89,7 @@ impl Values {
 // All values of a book; a refused one has none.
 pub fn of_book(book: &[u8]) -> Values
     ensures reply { result ≡ values_of book.now }
-    ensures kept { book.now ≡ book.now }
+    ensures kept { book.exit.now ≡ book.entry.now }
 {
     let form = book::form_of(book);
     let starts = book::starts_in(book);
