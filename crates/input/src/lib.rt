@@ -7,7 +7,7 @@ ghost use Rattle.input.specs.Input.{grown_by, after_read, OneRead, Settled};
 
 // What is known of the input: that it cannot be read; that it is whole, with so many bytes at the front of the buffer; or that so many are
 // there and more may follow.
-#[derive(Drop)]
+#[derive(Clone, Copy)]
 pub enum Progress {
     Failed,
     Whole(usize),

@@ -5,7 +5,7 @@ ghost use Rattle.text.specs.Text.{fitting};
 ghost use Rattle.output.specs.Says.{errors, Says};
 
 // What is to be written: so many bytes from the front of the buffer, to this stream.
-#[derive(Drop)]
+#[derive(Clone, Copy)]
 pub struct Said {
     pub stream: i32,
     pub length: usize,
