@@ -2,6 +2,7 @@
 // and in which order it goes is the definition in specs/Filling, to the unit. Holdings and holders are worked out once and lent, so that a
 // placement costs a few operations on masks.
 #![tactic(auto)]
+
 ghost use Rattle.std.specs.Prelude.{◌≡◌, ◌-◌, ◌≤◌, ◌<◌};
 ghost use Rattle.std.specs.Int.Bits.{bit_and, bit_xor};
 ghost use Rattle.std.specs.Int.Count.{ones};
