@@ -1,5 +1,4 @@
 -- Arrays of nothing are the tables of nothing, by computing. Assumes nothing.
-use borrow.Author.Rules.{rules}
 use mathlib.Core.Path.{◌≡◌}
 use lib.ListN.{replicate}
 use Rattle.sets.specs.Arrays.{tabulate}
@@ -8,8 +7,7 @@ use Rattle.book.specs.declared.Form.TheVariants.{Old}
 use Rattle.book.specs.declared.Row.{Row}
 use Rattle.values.specs.Values.{nobody, unasked, no_values, values_for}
 use Rattle.values.specs.declared.Values.{Values}
-use Rattle.values.proofs.Values.none.Statement.{statement}
-use Rattle.values.proofs.Values.none.Tie as tie
+use Rattle.values.proofs.Values.none.Goals as goal
 
 -- with nobody and nothing asked at every place
 nothing_there : (row : Row) (policy : Policy) → row ≡ nobody → policy ≡ unasked
@@ -19,14 +17,5 @@ nothing_there : (row : Row) (policy : Policy) → row ≡ nobody → policy ≡ 
 unfolding values_for tabulate
 nothing_there row policy e h = rw (e, h)
 
-nobody-requires : tie.Need-nobody-requires
-nobody-requires c κs = search rules
-
-unasked-requires : tie.Need-unasked-requires
-unasked-requires c κs = search rules
-
-returns : tie.Need-returns
-returns c = nothing_there c.before.nobody.result c.unasked.result c.before.nobody.ensures c.unasked.ensures
-
-pub none_spec : {M : Type 1} → statement M
-none_spec = tie.close (tie.spec nobody-requires unasked-requires returns)
+pub returns : goal.returns
+returns c = nothing_there c.nobody-rows.result c.unasked-policies.result c.nobody-rows.ensures c.unasked-policies.ensures
