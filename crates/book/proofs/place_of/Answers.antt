@@ -16,7 +16,7 @@ use Rattle.book.proofs.place_of.Goals.{After-width-wide}
 facts : (c : After-width-wide) → (c.args.start < length c.args.book.now) × (c.args.i < count_at c.args.book.now c.args.start) × (c.width-wide.result * c.args.i ≤ 3060)
 facts c = let a = c.args in
     let below : a.i < count_at a.book.now a.start = omega (arith, c.count_at.ensures, c.if-i-count_at.false) in
-    let byte = c.shared_slice_known-1.given a.start in (
+    let byte = c.type_inv.book a.start in (
       counted a.book.now a.start a.i below,
       below,
       rw c.width-wide.ensures (near a.form a.section a.i (omega (arith, below, byte))),
