@@ -1,6 +1,7 @@
 // The values of a book, all at once: read from it, changed by whoever likes, and written as a book again. specs/Values says which values are
 // meant, specs/Writing what is refused and what is written.
 #![tactic(auto)]
+
 mod gather;
 mod look;
 mod put;

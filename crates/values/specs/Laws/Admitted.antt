@@ -1,7 +1,7 @@
 -- Values have no fault exactly if a book may have them. Assumes nothing.
 use Rattle.std.specs.Prelude.{◌≡◌, refl, false, ◌↔◌, List, ◌++◌, ℕ, ◌^◌, ◌≤◌, ◌<◌, length}
 use Rattle.std.proofs.Common.{sym, ap, ◌∙◌, lt_of_lt_of_le, arith, pow_mono, ltb-false}
-use Rattle.std.proofs.Math.Option.{some, none}
+use Rattle.std.proofs.Math.Option.{none}
 use Rattle.roster.specs.Laws.Rulings.{inside, policy_within}
 use Rattle.roster.specs.declared.Policy.{Policy}
 use Rattle.book.specs.Layout.{Contents, permission_limit, code_fields, row_fields, policy_fields, form_has_persons, form_has_editions, bytes_of, PolicyFits, Admitted}
