@@ -1,6 +1,7 @@
 // The sheet: its whole text as a function of a book's bytes, into a buffer that the caller lends. What stands there is said by `sheet_of` in
 // specs/Sheet.antt, which is made of the reader's reply and of the replies to the policies: so the "yes" that is printed is the one proved.
 #![tactic(auto)]
+
 mod field;
 
 ghost use Rattle.std.specs.Prelude.{◌≡◌, length};

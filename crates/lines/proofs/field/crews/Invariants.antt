@@ -1,0 +1,19 @@
+-- The loop writes one crew after its mark and stops at the first that is empty. Its measure is how many sets are left. Assumes nothing.
+use mathlib.Core.Path.{◌≡◌, sym, ap}
+use mathlib.Core.List.{◌++◌, map}
+use Prim.Native.Nat.{suc, ◌-◌}
+use native.Mathlib.Numerals.{add-one}
+use native.Mathlib.Omega.{arith}
+use borrow.Author.Rules.{rules}
+use lib.ListN.{length, get_or}
+use Rattle.text.specs.Text.{marked}
+use Rattle.lines.specs.Lines.{names, between_members, set_text, filled, between_crews}
+use Rattle.text.specs.Laws.Appends.{SoFar, begin, step, with_rest, finish, same}
+use Rattle.lines.proofs.Walk.{crews_from, crew_next, crew_stop, crew_last}
+use Rattle.lines.proofs.field.crews.Given as goal
+
+abbrev pub invariant-loop-j : goal.invariant-loop-j
+invariant-loop-j l = SoFar (marked l.mark between_crews (map (set_text l.numbers) (filled l.sets))) (crews_from l.numbers l.sets l.before l.j) l.initial.out l.at l.out l.next
+
+abbrev pub decreases-loop-j : goal.decreases-loop-j
+decreases-loop-j l = length l.sets - l.j
