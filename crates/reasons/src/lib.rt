@@ -2,6 +2,7 @@
 // its units and whether it decides at all are this one's too; only where it finds no crews is a reason looked for. What the reasons are stands in
 // specs/Reasons, without any search.
 #![tactic(auto)]
+
 ghost use Rattle.std.specs.Prelude.{◌≡◌, ◌<◌};
 ghost use Rattle.std.specs.Int.Bits.{bit_and};
 ghost use Rattle.sets.specs.Arrays.{at};

@@ -19,9 +19,9 @@ use Rattle.reasons.specs.Reasons.{Reason}
 use Rattle.reasons.specs.Replies.{explained_with, WhyReply}
 use Rattle.reasons.specs.Inner.{Stuck}
 use Rattle.reasons.specs.Laws.Replies.{Kind, refused, undecided, nothing, blocked, why_kind, is_refused_lem, is_undecided, is_nothing, is_reason}
-use Rattle.reasons.proofs.Verdicts.{Left, left}
-use Rattle.reasons.proofs.why.Statement.{statement}
-use Rattle.reasons.proofs.why.Tie as tie
+use Rattle.reasons.proofs.Verdicts.{Left}
+use Rattle.reasons.proofs.why.Goals as goal
+use Rattle.reasons.proofs.why.Goals.{Start}
 
 -- by the verdict of the named question
 module _ (a : Accounts) (P d t ed A allowance : ℕ) (wide : P < 2 ^ 32) (named : Reply) (m : NamedAsked a P d t ed A allowance named) where
@@ -63,73 +63,23 @@ module _ (a : Accounts) (P d t ed A allowance : ℕ) (wide : P < 2 ^ 32) (named 
       go (blocked e l b) = absurd (rest.none (told.none.1 (e, l, (blocks_of_persons a P d t ed A).0 b)))
 
 -- the task has 32 bits
-narrow : (c : tie.Start) → c.args.policy.task < 2 ^ 32
+narrow : (c : Start) → c.args.policy.task < 2 ^ 32
 narrow c = search rules
 
-ask-named-requires : tie.Need-ask-named-requires
-ask-named-requires c κs = search rules
+pub returns-in-Refused : goal.returns-in-Refused
+returns-in-Refused c = let a = c.args in
+    by_refusal a.accounts a.policy.task a.policy.crews a.policy.size a.policy.edition a.absent a.allowance (narrow (goal.at.returns-in-Refused c).Start) c.ask_named-named.result c.ask_named-named.ensures c.in-Refused.refusal
+    c.in-Refused.is
 
-enum-known-verdict : tie.Need-enum-known-verdict
-enum-known-verdict c = search rules
+pub returns-in-Crews : goal.returns-in-Crews
+returns-in-Crews c = let a = c.args in
+    by_crews a.accounts a.policy.task a.policy.crews a.policy.size a.policy.edition a.absent a.allowance (narrow (goal.at.returns-in-Crews c).Start) c.ask_named-named.result c.ask_named-named.ensures c.in-Crews.is
 
-enum_told : tie.Need-enum-told
-enum_told c = search rules
+pub returns-in-None : goal.returns-in-None
+returns-in-None c = let a = c.args in
+    by_reason a.accounts a.policy.task a.policy.crews a.policy.size a.policy.edition a.absent a.allowance (narrow (goal.at.returns-in-None c).Start) c.ask_named-named.result c.ask_named-named.ensures c.in-None.is c.reason-why.result
+    (subst (λ (table : Table). Reason table a.policy.task a.policy.crews a.policy.size a.policy.edition a.absent c.reason-why.result) (ap People.table c.merged-people.ensures) c.reason-why.ensures)
 
-enum-told-2 : tie.Need-enum-told-2
-enum-told-2 c = search rules
-
-merged-requires : tie.Need-merged-requires
-merged-requires c κs = search rules
-
-reason-requires : tie.Need-reason-requires
-reason-requires c κs =
-    let k = c.before.before.before in
-    let e = k.before in
-    let a = e.args in
-    subst (λ (table : Table). Stuck table a.policy.task a.policy.crews a.policy.size a.policy.edition a.absent a.allowance) (sym (ap People.table c.merged.ensures))
-    (by_none a.accounts a.policy.task a.policy.crews a.policy.size a.policy.edition a.absent a.allowance (narrow e) k.ask-named.result k.ask-named.ensures c.before.enum-told2.given.1)
-
-returns : tie.Need-returns
-returns c =
-    let k = c.before.before.before in
-    let e = k.before in
-    let a = e.args in
-    by_refusal a.accounts a.policy.task a.policy.crews a.policy.size a.policy.edition a.absent a.allowance (narrow e) k.ask-named.result k.ask-named.ensures c.before.verdict.given.0.0
-    c.before.verdict.given.1
-
-returns-2 : tie.Need-returns-2
-returns-2 c =
-    let k = c.before.before in
-    let e = k.before in
-    let a = e.args in
-    by_crews a.accounts a.policy.task a.policy.crews a.policy.size a.policy.edition a.absent a.allowance (narrow e) k.ask-named.result k.ask-named.ensures c.enum_told.given.1
-
-returns-3 : tie.Need-returns-3
-returns-3 c =
-    let k = c.before.before.before.before in
-    let e = k.before in
-    let a = e.args in
-    by_reason a.accounts a.policy.task a.policy.crews a.policy.size a.policy.edition a.absent a.allowance (narrow e) k.ask-named.result k.ask-named.ensures c.before.before.enum-told2.given.1 c.reason.result
-    (subst (λ (table : Table). Reason table a.policy.task a.policy.crews a.policy.size a.policy.edition a.absent c.reason.result) (ap People.table c.before.merged.ensures) c.reason.ensures)
-
-returns-4 : tie.Need-returns-4
-returns-4 c =
-    let k = c.before in
-    let e = k.before in
-    let a = e.args in
-    by_rest a.accounts a.policy.task a.policy.crews a.policy.size a.policy.edition a.absent a.allowance (narrow e) k.ask-named.result k.ask-named.ensures (left k.ask-named.result.verdict c.match.keys4)
-
-pub why-spec : {M : Type 1} → statement M
-why-spec =
-    tie.close
-    (tie.spec
-    ask-named-requires
-    enum-known-verdict
-    enum_told
-    enum-told-2
-    merged-requires
-    reason-requires
-    returns
-    returns-2
-    returns-3
-    returns-4)
+pub returns-in_default : goal.returns-in_default
+returns-in_default c = let a = c.args in
+    by_rest a.accounts a.policy.task a.policy.crews a.policy.size a.policy.edition a.absent a.allowance (narrow (goal.at.returns-in_default c).Start) c.ask_named-named.result c.ask_named-named.ensures (record { refused = c.in_default.not-Refused; crews = c.in_default.not-Crews; none = c.in_default.not-None })

@@ -1,0 +1,25 @@
+-- No permission passed is scarce. Assumes nothing.
+use mathlib.Core.Path.{◌≡◌, sym, ◌∙◌}
+use mathlib.Core.Bool.{Bool, false}
+use mathlib.Core.List.{List}
+use Prim.Native.Nat.{ℕ, ◌-◌, ◌≤◌, ◌<◌}
+use native.Mathlib.Omega.{arith}
+use borrow.Author.Rules.{rules}
+use borrow.Author.Count.{below_more}
+use lib.Bits.{bit_and}
+use Rattle.sets.specs.Arrays.{at}
+use Rattle.accounts.specs.Laws.First.{first_is}
+use Rattle.reasons.specs.Replied.{scarce_in}
+use Rattle.reasons.proofs.lowest_scarce.Invariants.{test}
+use Rattle.reasons.proofs.lowest_scarce.Goals as goal
+
+pub returns-then-scarce : goal.returns-then-scarce
+returns-then-scarce c = let s = c.args in
+    let l = c.loop-permission in
+    sym (first_is (test s.holders.now s.task s.crews s.free) 32 l.permission l.invariant.0 l.invariant.1 (λ k. sym c.scarce.ensures ∙ c.if-scarce.true))
+
+pub returns : goal.returns
+returns c = let s = c.args in
+    let l = c.loop-permission in
+    sym (first_is (test s.holders.now s.task s.crews s.free) 32 32 (omega arith) (λ i k. l.invariant.1 i (omega (arith, l.invariant.0, c.loop-permission-test.false)))
+    (λ k. absurd (omega arith)))
