@@ -2,6 +2,7 @@
 // and the question is asked of their table by the crates below, where a row is a person: sets, ranks, sizes, absences and the blocker speak of
 // persons.
 #![tactic(auto)]
+
 ghost use Rattle.absences.specs.Tried.{full, skipping};
 ghost use Rattle.questions.specs.Asked.{PolicyAskedFor, NamedAskedFor};
 
