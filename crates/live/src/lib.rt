@@ -2,6 +2,7 @@
 // it. A roster goes by value in and out. What each call makes of any roster stands in specs/Changes, the plain list that it is held to in
 // specs/Plain, and the theorem over any sequence of calls in specs/Laws/Always.
 #![tactic(auto)]
+
 ghost use Rattle.std.specs.Prelude.{◌≡◌, ◌<◌};
 ghost use Rattle.sets.specs.Sets.{with, less};
 ghost use Rattle.roster.specs.Limits.{row_limit};
