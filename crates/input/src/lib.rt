@@ -1,6 +1,7 @@
 // Reading an input, as standard input, into a lent buffer, as the programs do that take a book or a table. Of a reader is known what std says of
 // `read`; what is made of its answer is said here, read by read.
 #![tactic(auto)]
+
 ghost use Rattle.std.specs.Prelude.{◌≡◌, ◌+◌, ◌-◌, ◌≤◌, length};
 ghost use Rattle.input.specs.Input.{grown_by, after_read, answer, Moved, OneRead, Settled};
 

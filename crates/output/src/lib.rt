@@ -1,6 +1,7 @@
 // What the programs say: so many bytes at the front of a buffer, to a stream. No clause can say what reaches a stream: of a write is known what std
 // says of it.
 #![tactic(auto)]
+
 ghost use Rattle.std.specs.Prelude.{◌≡◌};
 ghost use Rattle.text.specs.Text.{fitting};
 ghost use Rattle.output.specs.Says.{errors, Says};

@@ -1,5 +1,5 @@
 -- A read that failed is the definition's failure, any other its number of bytes. Assumes nothing.
-use mathlib.Core.Path.{◌≡◌, refl, sym, ap, ◌∙◌}
+use mathlib.Core.Path.{◌≡◌, sym, ap, ◌∙◌}
 use Rattle.std.specs.Prelude.{ℕ, Result, Ok, Err}
 use Rattle.input.specs.Input.{grown_by, after_read, answer}
 use Rattle.input.specs.declared.Progress.TheVariants.{Failed}

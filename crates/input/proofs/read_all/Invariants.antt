@@ -1,6 +1,6 @@
 -- The buffer is not full yet; with each read but the last there is less room left. Assumes nothing.
 use mathlib.Core.Path.{◌≡◌}
-use Prim.Native.Nat.{ℕ, ◌-◌, ◌≤◌}
+use Prim.Native.Nat.{◌-◌, ◌≤◌}
 use lib.ListN.{length}
 use Rattle.input.proofs.read_all.Given as goal
 
