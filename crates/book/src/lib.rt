@@ -27,7 +27,7 @@ const PERSONS: usize = 200;
 const EDITIONS: usize = 201;
 
 // What a book has: the rows of an old one have no person numbers, and each is a person of its own; policies without editions are of the first.
-#[derive(Drop)]
+#[derive(Clone, Copy)]
 pub enum Form {
     Old,
     Persons,
@@ -35,7 +35,7 @@ pub enum Form {
 }
 
 // What is wrong with a book. `number` gives the number that is published for each.
-#[derive(Drop)]
+#[derive(Clone, Copy)]
 pub enum Fault {
     Short,
     Permissions,
@@ -50,7 +50,7 @@ pub enum Fault {
 }
 
 // Where the sections start, each with its count.
-#[derive(Drop)]
+#[derive(Clone, Copy)]
 pub struct Starts {
     pub permissions: usize,
     pub rows: usize,
@@ -58,14 +58,14 @@ pub struct Starts {
 }
 
 // The reply to a book: good, with what is needed to reach each part, or its first fault with the place of the count or field concerned.
-#[derive(Drop)]
+#[derive(Clone, Copy)]
 pub enum Reading {
     Good(Starts),
     Refused(Fault, usize),
 }
 
 // A row of the book, an account. Rows with the same person number are one person; in an old book it is the staff number.
-#[derive(Drop)]
+#[derive(Clone, Copy)]
 pub struct Row {
     pub staff: u32,
     pub person: u32,
@@ -73,21 +73,21 @@ pub struct Row {
 }
 
 // A row by its number.
-#[derive(Drop)]
+#[derive(Clone, Copy)]
 pub enum Seen {
     Row(Row),
     NoSuchRow,
 }
 
 // A permission's code by its index.
-#[derive(Drop)]
+#[derive(Clone, Copy)]
 pub enum Coded {
     Code(u16),
     NoSuchCode,
 }
 
 // A policy by its index.
-#[derive(Drop)]
+#[derive(Clone, Copy)]
 pub enum Listed {
     Policy(Policy),
     NoSuchPolicy,
@@ -129,7 +129,7 @@ impl Form {
 // ---- what the reader goes by; what is public of it is so only for the laws of crates above, which name it
 
 // The sections, in their order.
-#[derive(Drop)]
+#[derive(Clone, Copy)]
 pub enum Section {
     Permissions,
     Rows,
@@ -137,42 +137,42 @@ pub enum Section {
 }
 
 // What is amiss with a count or an entry by itself: nothing, or this fault of its field of this number, the first being 0.
-#[derive(Drop)]
+#[derive(Clone, Copy)]
 pub enum Amiss {
     Nothing,
     Field(Fault, usize),
 }
 
 // What looking at one count or one entry of a book finds: nothing, or its first fault with the place of the field concerned.
-#[derive(Drop)]
+#[derive(Clone, Copy)]
 pub enum Look {
     Sound,
     Faulty(Fault, usize),
 }
 
 // Where the entry before stands, if there is one.
-#[derive(Drop)]
+#[derive(Clone, Copy)]
 pub enum Before {
     Nothing,
     Entry(usize),
 }
 
 // Where the reader stands in a section.
-#[derive(Drop)]
+#[derive(Clone, Copy)]
 struct Cursor {
     pub before: Before,
     pub at: usize,
 }
 
 // What reading a section comes to: the place past it, or its first fault with its place.
-#[derive(Drop)]
+#[derive(Clone, Copy)]
 enum Step {
     Next(usize),
     Refused(Fault, usize),
 }
 
 // Where an entry stands.
-#[derive(Drop)]
+#[derive(Clone, Copy)]
 pub enum Place {
     At(usize),
     Nothing,
@@ -399,7 +399,7 @@ pub fn policy_at(book: &[u8], i: usize) -> Listed
 // ---- the view
 
 // A lent book with its section starts, for whoever asks by row again and again.
-#[derive(Drop)]
+#[derive(Clone, Copy)]
 pub struct Book<'a> {
     pub bytes: &'a [u8],
     pub starts: Starts,

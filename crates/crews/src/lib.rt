@@ -2,6 +2,7 @@
 // and in which order it goes is the definition in specs/Filling, to the unit. Holdings and holders are worked out once and lent, so that a
 // placement costs a few operations on masks.
 #![tactic(auto)]
+
 ghost use Rattle.std.specs.Prelude.{◌≡◌, ◌-◌, ◌≤◌, ◌<◌};
 ghost use Rattle.std.specs.Int.Bits.{bit_and, bit_xor};
 ghost use Rattle.std.specs.Int.Count.{ones};
@@ -20,7 +21,7 @@ use roster::{Policy, Reply, Ruling, Table};
 // The half-filled crews: those closed, the one being filled, the rows neither absent nor placed, what the crew being filled holds, and the
 // lowest row that may begin the next crew. The crew being filled is a field of its own because it changes with each row: written into the
 // array, the copy of the array that follows would wait for it.
-#[derive(Drop)]
+#[derive(Clone, Copy)]
 struct Filling {
     crews: [u64; Policy::CREWS],
     closed: usize,
@@ -31,7 +32,7 @@ struct Filling {
 }
 
 // How filling ends: with a complete list, with all lists exhausted, or because one more unit than the allowance was wanted.
-#[derive(Drop)]
+#[derive(Clone, Copy)]
 pub enum Ending {
     Complete,
     Exhausted,
@@ -40,7 +41,7 @@ pub enum Ending {
 
 // What filling comes to: the crews are all 0 unless it ends complete. They stand first because behind a field of one byte they are copied
 // more slowly.
-#[derive(Drop)]
+#[derive(Clone, Copy)]
 pub struct Filled {
     pub crews: [u64; Policy::CREWS],
     pub units: u32,

@@ -9,7 +9,7 @@ use roster::{Policy, Reply};
 const ALLOWANCE: u32 = 1000000;
 
 // A list of permissions or of people as a set: of bits, or of rows of the roster's table. Something in it may not be there, or be no number.
-#[derive(Drop)]
+#[derive(Clone, Copy)]
 enum Listed {
     Set(u64),
     NoSuch,

@@ -5,7 +5,7 @@ use roster::Policy;
 use values::Values;
 
 // `is_heard` says that the last answer could be written.
-#[derive(Drop)]
+#[derive(Clone, Copy)]
 pub struct Board {
     pub roster: Roster,
     pub values: Values,

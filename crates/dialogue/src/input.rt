@@ -4,7 +4,7 @@
 pub const WIDTH: usize = 1000;
 
 // What a read came to.
-#[derive(Drop)]
+#[derive(Clone, Copy)]
 enum Came {
     Byte(u8),
     End,
@@ -12,7 +12,7 @@ enum Came {
 }
 
 // How a line ended: with its newline, or with the input; or the input could not be read.
-#[derive(Drop)]
+#[derive(Clone, Copy)]
 pub enum Ended {
     Newline,
     Input,
@@ -20,7 +20,7 @@ pub enum Ended {
 }
 
 // The first `length` bytes are the line. Of one that is too long the front is kept.
-#[derive(Drop)]
+#[derive(Clone, Copy)]
 pub struct Line {
     pub bytes: [u8; WIDTH],
     pub length: usize,

@@ -13,7 +13,7 @@ use desk::Intake;
 use input::{Ended, Line};
 
 // The board to begin with, if there is one.
-#[derive(Drop)]
+#[derive(Clone, Copy)]
 struct Start {
     board: Board,
     is_ready: bool,

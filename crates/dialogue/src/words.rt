@@ -1,14 +1,14 @@
 // The words of a line, with blanks between them, the items of a list, with commas between them, and numbers.
 
 // From one place to another; none where the two are one.
-#[derive(Drop)]
+#[derive(Clone, Copy)]
 struct Span {
     from: usize,
     to: usize,
 }
 
 // A number of 32 bits, or something else.
-#[derive(Drop)]
+#[derive(Clone, Copy)]
 pub enum Number {
     Is(u32),
     Not,

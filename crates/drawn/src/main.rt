@@ -15,7 +15,7 @@ const BOOKS: usize = 3000;
 const PLANTED: usize = 10;
 
 // A book of the drawn values, in the first `length` bytes; of no bytes if the values cannot be written.
-#[derive(Drop)]
+#[derive(Clone, Copy)]
 struct Book {
     bytes: [u8; values::LONGEST],
     length: usize,

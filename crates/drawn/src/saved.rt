@@ -6,7 +6,7 @@ pub const ROOM: usize = 12000;
 pub const WAYS: usize = 6;
 
 // What stands between two cells, whether lines end with a carriage return, and whether there is a byte order mark and a column of names.
-#[derive(Drop)]
+#[derive(Clone, Copy)]
 pub struct Way {
     between: u8,
     returns: bool,
@@ -15,7 +15,7 @@ pub struct Way {
 }
 
 // Where in a table one is: at the beginning of a line or further on, in a heading or another line.
-#[derive(Drop)]
+#[derive(Clone, Copy)]
 struct Place {
     begins: bool,
     heading: bool,

@@ -15,7 +15,7 @@ const AMPLE: u32 = 4294967295;
 const NOISE: u32 = 4294967295;
 
 // Rows that hold the same, `64x1`, or one row; whose they are; and the place behind them.
-#[derive(Drop)]
+#[derive(Clone, Copy)]
 pub struct Alike {
     count: usize,
     held: u32,

@@ -11,7 +11,7 @@ const CASES: usize = 1000;
 const GROUPS: usize = 100;
 
 // What a case comes to: how many comparisons it makes, how many of them differ, and what came where the first of those did.
-#[derive(Drop)]
+#[derive(Clone, Copy)]
 pub struct Outcome {
     pub compared: u64,
     pub differ: u64,
@@ -117,7 +117,7 @@ fn outcome_of(text: &[u8], at: usize) -> Outcome {
 }
 
 // What a group comes to, the place of its first case that differs, and where the next group starts.
-#[derive(Drop)]
+#[derive(Clone, Copy)]
 struct Tally {
     compared: u64,
     differ: u64,

@@ -4,7 +4,7 @@
 pub const ROOM: usize = 1100;
 
 // The first `length` bytes are the book.
-#[derive(Drop)]
+#[derive(Clone, Copy)]
 pub struct Draft {
     pub bytes: [u8; ROOM],
     pub length: usize,

@@ -16,14 +16,14 @@ use live::{Outcome, Roster, Told};
 const LINES: usize = 1000;
 
 // The roster after a line, and what the line came to.
-#[derive(Drop)]
+#[derive(Clone, Copy)]
 struct Stepped {
     roster: Roster,
     came: Line,
 }
 
 // The roster so far, how many lines were compared, how many differ, and the first of those with what came.
-#[derive(Drop)]
+#[derive(Clone, Copy)]
 struct History {
     roster: Roster,
     compared: u64,

@@ -5,7 +5,7 @@ use roster::{Reply, Verdict};
 const WIDTH: usize = 512;
 
 // The first `length` bytes are the line.
-#[derive(Drop)]
+#[derive(Clone, Copy)]
 pub struct Line {
     bytes: [u8; WIDTH],
     length: usize,

@@ -8,7 +8,7 @@ pub const WORDS: usize = 100;
 const DIGITS: usize = 20;
 
 // A number, and the place behind it.
-#[derive(Drop)]
+#[derive(Clone, Copy)]
 pub struct Number {
     pub value: u64,
     pub next: usize,

@@ -10,7 +10,7 @@ use std::io::Read;
 
 // What is known of the input: that it cannot be read; that it is whole, with so many bytes at the front of the buffer; or that so many are
 // there and more may follow.
-#[derive(Drop)]
+#[derive(Clone, Copy)]
 pub enum Progress {
     Failed,
     Whole(usize),

@@ -23,7 +23,7 @@ pub const ENOUGH: usize = 1093;
 pub const ALLOWANCE: u32 = 1000000;
 
 // What asking for a sheet comes to: how many bytes of the buffer it takes, or that the buffer is shorter than a sheet can be.
-#[derive(Drop)]
+#[derive(Clone, Copy)]
 pub enum Writing {
     Written(usize),
     TooShort,

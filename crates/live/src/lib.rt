@@ -16,7 +16,7 @@ use roster::{Policy, Reply, Table};
 
 // Who stands at which place: bit i of `occupied` says that place i is taken. A place that is not has staff number 0 and holdings 0, and stands
 // in no set of `holders`.
-#[derive(Drop)]
+#[derive(Clone, Copy)]
 pub struct Roster {
     pub occupied: u64,
     pub staff: [u32; Policy::ROWS],
@@ -25,7 +25,7 @@ pub struct Roster {
 }
 
 // Why a call is refused. `number` gives the number that is published for each.
-#[derive(Drop)]
+#[derive(Clone, Copy)]
 pub enum Objection {
     Permission,
     Nobody,
@@ -34,21 +34,21 @@ pub enum Objection {
 }
 
 // What a call answers: the place that it concerned, or why nothing was done.
-#[derive(Drop)]
+#[derive(Clone, Copy)]
 pub enum Outcome {
     Done(usize),
     Refused(Objection),
 }
 
 // The roster after a call, and the call's answer.
-#[derive(Drop)]
+#[derive(Clone, Copy)]
 pub struct Told {
     pub roster: Roster,
     pub outcome: Outcome,
 }
 
 // Where somebody stands.
-#[derive(Drop)]
+#[derive(Clone, Copy)]
 enum Place {
     At(usize),
     Nowhere,

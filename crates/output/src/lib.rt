@@ -14,7 +14,7 @@ pub const OUTPUT: i32 = 1;
 pub const ERRORS: i32 = 2;
 
 // What is to be written: so many bytes from the front of the buffer, to this stream.
-#[derive(Drop)]
+#[derive(Clone, Copy)]
 pub struct Said {
     pub stream: i32,
     pub length: usize,

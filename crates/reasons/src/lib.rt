@@ -16,7 +16,7 @@ use roster::{Policy, Refusal, Table, Verdict};
 
 // What is answered: one of the three reasons, the first that is true; that crews exist, so that there is nothing to explain; or why nothing can be
 // told.
-#[derive(Drop)]
+#[derive(Clone, Copy)]
 pub enum Explanation {
     // too few of those present hold this permission of the task: its bit number
     Scarce(u32),
@@ -30,7 +30,7 @@ pub enum Explanation {
 }
 
 // The answer and the units of the named question.
-#[derive(Drop)]
+#[derive(Clone, Copy)]
 pub struct Explained {
     pub why: Explanation,
     pub units: u32,

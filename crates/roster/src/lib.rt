@@ -9,7 +9,7 @@ ghost use Rattle.roster.specs.Refusals.{number_of, policy_ruling, ruling_of, nam
 ghost use Rattle.roster.specs.Replies.{no_crews, reply_with};
 
 // Who holds what: bit i of a row's holdings is permission i. Holdings past the row count play no part.
-#[derive(Drop)]
+#[derive(Clone, Copy)]
 pub struct Table {
     pub holdings: [u32; Policy::ROWS],
     pub rows: usize,
@@ -17,7 +17,7 @@ pub struct Table {
 
 // Any `away` people absent, still `crews` separate crews of at most `size`, each holding every permission of `task`; by the rule of this
 // edition, of which the second asks for two members in each crew.
-#[derive(Drop)]
+#[derive(Clone, Copy)]
 pub struct Policy {
     pub task: u32,
     pub away: u32,
@@ -27,7 +27,7 @@ pub struct Policy {
 }
 
 // Why a question is refused. `number` gives the number that is published for each.
-#[derive(Drop)]
+#[derive(Clone, Copy)]
 pub enum Refusal {
     Rows,
     Task,
@@ -39,21 +39,21 @@ pub enum Refusal {
 }
 
 // What looking over a question's numbers finds: nothing amiss, or the first fault in the fixed order.
-#[derive(Drop)]
+#[derive(Clone, Copy)]
 pub enum Ruling {
     Admitted,
     Refused(Refusal),
 }
 
 // What the checked constructor of a policy answers.
-#[derive(Drop)]
+#[derive(Clone, Copy)]
 pub enum Made {
     Policy(Policy),
     Refused(Refusal),
 }
 
 // What a question is answered with. `Crews` and `None` answer a named absence, `Yes` and `No` a policy.
-#[derive(Drop)]
+#[derive(Clone, Copy)]
 pub enum Verdict {
     Yes,
     No,
@@ -64,7 +64,7 @@ pub enum Verdict {
 }
 
 // The whole reply: specs/Replies sets out which values go with each verdict.
-#[derive(Drop)]
+#[derive(Clone, Copy)]
 pub struct Reply {
     pub verdict: Verdict,
     pub crews: [u64; Policy::CREWS],

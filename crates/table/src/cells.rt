@@ -3,7 +3,7 @@ use crate::draft::Draft;
 use crate::{What, same};
 
 // A number of 32 bits, or something else.
-#[derive(Drop)]
+#[derive(Clone, Copy)]
 pub(crate) enum Number {
     Is(u32),
     Not,

@@ -16,7 +16,7 @@ pub(crate) const POLICY_LINES: u8 = 3;
 pub(crate) const END: u8 = 4;
 
 // Whether something is wrong.
-#[derive(Drop)]
+#[derive(Clone, Copy)]
 pub(crate) enum Found {
     Nothing,
     Wrong(Trouble),
@@ -24,7 +24,7 @@ pub(crate) enum Found {
 
 // What is read so far. Of the current line: its number; how many of its cells count, and how many of these are codes; the numbers it has; the
 // set of its marks, and the weight of the next one.
-#[derive(Drop)]
+#[derive(Clone, Copy)]
 pub(crate) struct Draft {
     pub(crate) found: Found,
     pub(crate) has_persons: bool,

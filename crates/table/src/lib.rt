@@ -30,7 +30,7 @@ const ROOM: usize = 8285;
 
 // What showing a book comes to: so many bytes at the front of the buffer are its table; or they are the `bad` line of a refused book; or the buffer is
 // shorter than a table can be.
-#[derive(Drop)]
+#[derive(Clone, Copy)]
 pub enum Shown {
     Table(usize),
     Bad(usize),
@@ -38,7 +38,7 @@ pub enum Shown {
 }
 
 // What is wrong with a table.
-#[derive(Drop)]
+#[derive(Clone, Copy)]
 pub enum What {
     // the whole table
     TooLong,
@@ -84,7 +84,7 @@ pub enum What {
 
 // Where a table is wrong, as a spreadsheet counts, and how. Lines and columns are counted from 1, also those that are passed over; column 0 is the
 // whole line, and line 0 the whole table.
-#[derive(Drop)]
+#[derive(Clone, Copy)]
 pub struct Trouble {
     pub line: usize,
     pub column: usize,
@@ -93,7 +93,7 @@ pub struct Trouble {
 
 // What asking for a book comes to: how many bytes of the buffer it takes; what is wrong with the table; or that the buffer is shorter than a book
 // can be.
-#[derive(Drop)]
+#[derive(Clone, Copy)]
 pub enum Making {
     Made(usize),
     Wrong(Trouble),
@@ -101,7 +101,7 @@ pub enum Making {
 }
 
 // A piece of a text: where it ends, and where the next one begins.
-#[derive(Drop)]
+#[derive(Clone, Copy)]
 struct Piece {
     end: usize,
     next: usize,
@@ -109,7 +109,7 @@ struct Piece {
 
 // How far the lines of a table are written: the place in the buffer, whether a heading stands there, and where the heading of the next line is in
 // the text; from and to are one where a heading is waited for.
-#[derive(Drop)]
+#[derive(Clone, Copy)]
 struct Turn {
     next: usize,
     begun: bool,

@@ -28,21 +28,21 @@ const CALLS: usize = 12000;
 const HISTORY: usize = 1500;
 
 // The comparisons so far. `call` is the number of the one being tried.
-#[derive(Drop)]
+#[derive(Clone, Copy)]
 struct Tally {
     kinds: [Kind; KINDS],
     call: usize,
 }
 
 // The library's roster and the plain list, which have had the same calls.
-#[derive(Drop)]
+#[derive(Clone, Copy)]
 struct Pair {
     roster: Roster,
     list: Listed,
 }
 
 // What is asked of a pair: the task, how many crews, how many to each, how many away, the edition, and an absence by its number.
-#[derive(Drop)]
+#[derive(Clone, Copy)]
 struct Asked {
     task: usize,
     crews: usize,

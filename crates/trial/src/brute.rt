@@ -3,7 +3,7 @@
 use crate::plain::{CREWS, Duty, PERMISSIONS, ROWS, after};
 
 // Where each row is: 0 in no crew, c in the crew numbered c, from 1. `over` says that the last way has been tried.
-#[derive(Drop)]
+#[derive(Clone, Copy)]
 struct Ways {
     place: [usize; ROWS],
     over: bool,

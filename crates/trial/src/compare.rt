@@ -39,7 +39,7 @@ pub const KINDS: usize = 13;
 pub const VERDICTS: usize = 10;
 
 // How many comparisons of a kind were made, how many differed, and by which table the first.
-#[derive(Drop)]
+#[derive(Clone, Copy)]
 pub struct Kind {
     pub compared: u64,
     pub differ: u64,
@@ -66,7 +66,7 @@ pub const NONE: Kind = Kind {
 
 // The comparisons of each kind, and how many replies had each verdict. `table` is the one being tried; the first difference of the kind `shown` is
 // written to standard output.
-#[derive(Drop)]
+#[derive(Clone, Copy)]
 pub struct Counts {
     pub kinds: [Kind; KINDS],
     pub replied: [u64; VERDICTS],

@@ -5,7 +5,7 @@ use crate::plain::{Duty, PERMISSIONS, ROWS, after};
 const STEPS: usize = 100000;
 
 // The placements made so far, in order: which row, into which crew. The crew being filled is the one numbered `closed`.
-#[derive(Drop)]
+#[derive(Clone, Copy)]
 pub struct Placed {
     pub count: usize,
     pub row: [usize; ROWS],
@@ -15,7 +15,7 @@ pub struct Placed {
 
 // What filling came to: whether the list is complete, the placements that stand, and how many were made on the way. `lost` says that the
 // steps allowed did not suffice, which is a fault of this program and is counted as a difference.
-#[derive(Drop)]
+#[derive(Clone, Copy)]
 pub struct Filled {
     pub found: bool,
     pub placed: Placed,

@@ -15,7 +15,7 @@ pub const LISTED: usize = 8;
 
 // Of a set as an absence: how many rows it has, whether it blocks, whether filling found a list and after how many placements, whether it is worth
 // trying.
-#[derive(Drop)]
+#[derive(Clone, Copy)]
 pub struct Fact {
     pub size: usize,
     pub blocks: bool,
@@ -25,7 +25,7 @@ pub struct Fact {
 }
 
 // The facts by the sets' numbers, and the numbers in the order of absences.
-#[derive(Drop)]
+#[derive(Clone, Copy)]
 pub struct Known {
     pub sets: usize,
     pub facts: [Fact; SETS],
@@ -33,7 +33,7 @@ pub struct Known {
 }
 
 // What a reply has to be. The verdict is its code. An explanation's is that of its reason, and its blocker the permission that is scarce, as a set.
-#[derive(Drop)]
+#[derive(Clone, Copy)]
 pub struct Wanted {
     pub verdict: usize,
     pub crews: [u64; LISTED],

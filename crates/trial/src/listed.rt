@@ -8,7 +8,7 @@ pub const PERMISSIONS: usize = 32;
 // 64 places of 32 cells.
 const CELLS: usize = 2048;
 
-#[derive(Drop)]
+#[derive(Clone, Copy)]
 pub struct Listed {
     pub here: [bool; PLACES],
     pub number: [u32; PLACES],
@@ -16,7 +16,7 @@ pub struct Listed {
 }
 
 // What is called: 0 hire, 1 leave, 2 grant, 3 revoke. The permission counts for the last two.
-#[derive(Drop)]
+#[derive(Clone, Copy)]
 pub struct Call {
     pub kind: usize,
     pub number: u32,
@@ -30,7 +30,7 @@ pub const LEAVE: usize = 1;
 pub const GRANT: usize = 2;
 
 // The list after a call, and what is answered: the place, or, unless it is 0, the number of the refusal.
-#[derive(Drop)]
+#[derive(Clone, Copy)]
 pub struct Answer {
     pub list: Listed,
     pub place: usize,

@@ -3,7 +3,7 @@
 use crate::plain::{Duty, PERMISSIONS, ROWS, after};
 
 // A duty whose rows are accounts, and the owner of each row.
-#[derive(Drop)]
+#[derive(Clone, Copy)]
 pub struct Staff {
     pub accounts: Duty,
     pub owner: [usize; ROWS],

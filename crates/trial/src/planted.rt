@@ -9,7 +9,7 @@ use roster::{Reply, Verdict};
 
 // What is planted into: the replies to the paper's example a by both searches, to one named absence, and why another blocks, with what each has to
 // be.
-#[derive(Drop)]
+#[derive(Clone, Copy)]
 pub struct Ground {
     asked: Asked,
     policy: Wanted,

@@ -23,7 +23,7 @@ pub const BEFORE: usize = 5;
 pub const WHY: usize = 6;
 
 // A duty as the libraries have it, and whether its permissions are spread over the whole width.
-#[derive(Drop)]
+#[derive(Clone, Copy)]
 pub struct Asked {
     pub spread: bool,
     pub accounts: Accounts,
@@ -34,7 +34,7 @@ pub struct Asked {
 }
 
 // How many may be away counts for a policy, the absent persons for a named absence.
-#[derive(Drop)]
+#[derive(Clone, Copy)]
 pub struct Question {
     pub way: usize,
     pub asked: Asked,

@@ -21,7 +21,7 @@ pub const LONGEST: usize = 1092;
 
 // What a book says. As many of each list are meant as its count says; what stands past the count plays no part, and neither does a field that the
 // form has not.
-#[derive(Drop)]
+#[derive(Clone, Copy)]
 pub struct Values {
     pub form: Form,
     pub codes: [u16; PERMISSIONS],
@@ -33,21 +33,21 @@ pub struct Values {
 }
 
 // Why values are not written. `number` gives the number that is published for each.
-#[derive(Drop)]
+#[derive(Clone, Copy)]
 pub enum Unwritten {
     Fault(Fault),
     Room,
 }
 
 // The reply to writing: the book's length, or why there is none, with the place 0.
-#[derive(Drop)]
+#[derive(Clone, Copy)]
 pub enum Wrote {
     Written(usize),
     Refused(Unwritten, usize),
 }
 
 // The first fault of values, if there is one. Of which field it is plays no part: there is no place in a book that is not written.
-#[derive(Drop)]
+#[derive(Clone, Copy)]
 enum First {
     Nothing,
     Fault(Fault),

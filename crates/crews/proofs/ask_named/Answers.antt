@@ -26,8 +26,8 @@ use Rattle.crews.specs.Named.{NamedReply}
 use Rattle.crews.specs.Laws.Named.{allowed_by}
 use Rattle.crews.specs.Laws.Steps.{filled-fits, filled-over}
 use Rattle.crews.specs.Laws.Arrays.{lent_filling}
-use Rattle.crews.proofs.ask_named.Statement.{statement}
-use Rattle.crews.proofs.ask_named.Tie as tie
+use Rattle.crews.proofs.ask_named.Goals as goal
+use Rattle.crews.proofs.ask_named.Goals.{After-named_ruling, Start}
 
 module _ (table : Table) (P d t ed A allowance : ℕ) (wide : P < 2 ^ 32) (r : Reply) where
   refused : (refusal : Refusal) → named_ruling table.rows P d t ed A ≡ ruling.Refused refusal
@@ -69,85 +69,26 @@ same_filling table P d t ed A hr hn hP hd holds holders all least eh ek ea el =
     ∙ ap (λ (h : List ℕ). found_from (orderly (at h) (at (tabulate 32 (holders_of (at h)))) P d t (least_members ed)) (present table A)) eh
     ∙ lent_filling table P d t ed A hr hn hP hd
 
-named-ruling-requires : tie.Need-named-ruling-requires
-named-ruling-requires c κs = search rules
-
-enum-known-refusal : tie.Need-enum-known-refusal
-enum-known-refusal c = search rules
-
-refused-requires : tie.Need-refused-requires
-refused-requires c κs = search rules
-
-enum_told : tie.Need-enum-told
-enum_told c = search rules
-
-holdings-within-requires : tie.Need-holdings-within-requires
-holdings-within-requires c κs = search rules
-
-holders-of-requires : tie.Need-holders-of-requires
-holders-of-requires c κs = search rules
-
-least-members-requires : tie.Need-least-members-requires
-least-members-requires c κs = search rules
-
-below-requires : tie.Need-below-requires
-below-requires c κs = search rules
-
-fill-requires : tie.Need-fill-requires
-fill-requires c κs = search rules
-
-reply-of-requires : tie.Need-reply-of-requires
-reply-of-requires c κs = search rules
-
 -- what was asked is what is ruled on
-ruled : (c : tie.After-named-ruling)
-    → named_ruling_of c.before.args.table.rows c.before.args.policy c.before.args.absent
-    ≡ c.named-ruling.result
-ruled c = sym c.named-ruling.ensures
+ruled : (c : After-named_ruling) → named_ruling_of c.args.table.rows c.args.policy c.args.absent ≡ c.named_ruling.result
+ruled c = sym c.named_ruling.ensures
 
 -- the task has 32 bits
-wide : (c : tie.Start) → c.args.policy.task < 2 ^ 32
+wide : (c : Start) → c.args.policy.task < 2 ^ 32
 wide c = search rules
 
-returns : tie.Need-returns
-returns c =
-    let p = c.before.before.before.before in
-    let s = p.before.args in
-    let given = c.before.before.refusal.given in
-    refused s.table s.policy.task s.policy.crews s.policy.size s.policy.edition s.absent s.allowance (wide p.before) _ given.0.0
-    (ruled p ∙ given.1) c.refused.ensures
-
-returns-2 : tie.Need-returns-2
-returns-2 c =
-    let p = c.before.before.before.before.before.before.before.before.before.before.before in
-    let s = p.before.args in
-    let fits = wide p.before in
-    let ok = ruled p ∙ c.before.before.before.before.before.before.before.before.before.enum_told.given.1 in
+pub returns-in-Admitted : goal.returns-in-Admitted
+returns-in-Admitted c = let s = c.args in
+    let fits = wide (goal.at.returns-in-Admitted c).Start in
+    let ok = ruled (goal.at.returns-in-Admitted c).After-named_ruling ∙ c.in-Admitted.is in
     let k = (named_within s.table.rows s.policy.task s.policy.crews s.policy.size s.policy.edition s.absent ok).0 in
-    let holds = c.before.before.before.before.before.before.before.before.holdings-within in
-    let holders = c.before.before.before.before.before.before.holders-of in
-    admitted s.table s.policy.task s.policy.crews s.policy.size s.policy.edition s.absent s.allowance fits c.reply-of.result ok
-    (c.reply-of.ensures
+    let holds = c.holdings_within-holds in
+    let holders = c.holders_of-holders in
+    admitted s.table s.policy.task s.policy.crews s.policy.size s.policy.edition s.absent s.allowance fits c.reply_of.result ok
+    (c.reply_of.ensures
     ∙ ap replied_of
-    (c.before.fill.ensures.0
+    (c.fill.ensures.value
     ∙ ap (filled_of s.allowance 0)
     (same_filling s.table s.policy.task s.policy.crews s.policy.size s.policy.edition s.absent k.rows k.task fits k.few holds.result
-    holders.result c.before.before.below.result c.before.before.before.least-members.result holds.ensures holders.ensures.0
-    (c.before.before.below.ensures ∙ below_within 64 s.table.rows k.rows) c.before.before.before.least-members.ensures)))
-
-pub ask-named-spec : {M : Type 1} → statement M
-ask-named-spec =
-    tie.close
-    (tie.spec
-    named-ruling-requires
-    enum-known-refusal
-    refused-requires
-    enum_told
-    holdings-within-requires
-    holders-of-requires
-    least-members-requires
-    below-requires
-    fill-requires
-    reply-of-requires
-    returns
-    returns-2)
+    holders.result c.below.result c.least_members.result holds.ensures holders.ensures.value
+    (c.below.ensures ∙ below_within 64 s.table.rows k.rows) c.least_members.ensures)))

@@ -1,0 +1,32 @@
+-- The measure is twice the number of free rows, less one where a row is about to be placed: it falls with each call. The loop of `try_each`
+-- keeps `Going`.
+use Prim.Native.Nat.{◌-◌, ◌*◌}
+use lib.Count.{ones}
+use Rattle.crews.proofs.Turns as turn
+use Rattle.crews.proofs.+go_on_try_each.Given as goal
+
+abbrev pub decreases-go_on : goal.decreases-go_on
+decreases-go_on l = 2 * ones l.before.free - 1
+
+abbrev pub decreases-try_each : goal.decreases-try_each
+decreases-try_each l = 2 * ones l.placed.free
+
+abbrev pub invariant-try_each-loop-rest : goal.invariant-try_each-loop-rest
+invariant-try_each-loop-rest l =
+    turn.Going
+    (record {
+      holds = l.holds;
+      holders = l.holders;
+      task = l.task;
+      crews = l.crews;
+      size = l.size;
+      least = l.least;
+      state = l.f;
+      spent = l.spent;
+      allowance = l.allowance;
+    })
+    l.rest
+    l.units
+
+abbrev pub decreases-try_each-loop-rest : goal.decreases-try_each-loop-rest
+decreases-try_each-loop-rest l = ones l.rest
