@@ -100,7 +100,7 @@ module _ (look : Before → ℕ → Look) (wide : ℕ) (c : Cursor) where
   step_sound (suc n) h e =
       let less : suc n - 1 ≡ n = omega arith in
       let far : c.at + wide * suc n ≡ c.at + wide + wide * n = omega (arith, mul-suc wide n) in
-      rw (e, less) (rw far)
+      rw (e, less) (ap (λ (x : ℕ). first_fault step.Refused (step.Next x) (in_turn look wide (Entry c.at) (c.at + wide) n)) far)
 
 -- ---- one section after the other
 

@@ -6,7 +6,6 @@ use Rattle.roster.specs.Limits.{row_limit}
 use Rattle.roster.specs.Refusals.{made}
 use Rattle.roster.specs.declared.Made.{Made}
 use Rattle.roster.specs.declared.Made.TheVariants as variants
-use Rattle.roster.specs.declared.Policy.{Policy}
 use Rattle.accounts.specs.declared.Accounts.{Accounts}
 use Rattle.book.specs.Layout.{Contents}
 use Rattle.book.specs.Reading.{Kind, codes, rows_of, policies_of, width, entry_at, count_at, past, form_of, front, read_of}

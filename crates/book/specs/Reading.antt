@@ -16,7 +16,6 @@ use Rattle.book.specs.declared.Form.TheVariants.{Old, Persons, Editions}
 use Rattle.book.specs.declared.Row.{Row}
 use Rattle.book.specs.declared.Fault.{Fault}
 use Rattle.book.specs.declared.Fault.TheVariants as fault
-use Rattle.book.specs.declared.Section.TheVariants.{Permissions, Rows, Policies}
 use Rattle.book.specs.declared.Amiss.{Amiss}
 use Rattle.book.specs.declared.Amiss.TheVariants as amiss
 use Rattle.book.specs.declared.Look.{Look}

@@ -2,6 +2,7 @@
 // whether it is a good book or what its first fault is; the functions after it hand out a good book's parts. specs/Layout says what a book
 // is, specs/Reading what is refused and where. A book has one of three forms, told by its first byte.
 #![tactic(auto)]
+
 pub mod sections;
 
 ghost use Rattle.std.specs.Prelude.{◌≡◌};

@@ -68,6 +68,8 @@ Fit (w ∷ ws) (x ∷ xs) = (x < 256 ^ w) × Fit ws xs
 pub fields_length : (ws xs : List ℕ) → Fit ws xs → length (field_bytes ws xs) ≡ total ws
 unfolding Fit field_bytes
 fields_length [] [] f = refl
+fields_length [] (x ∷ xs) f = elim f [ ]
+fields_length (w ∷ ws) [] f = elim f [ ]
 fields_length (w ∷ ws) (x ∷ xs) f =
     length-append (little_endian w x) (field_bytes ws xs)
     ∙ ap (λ (k : ℕ). k + length (field_bytes ws xs)) (little-length w x)
@@ -77,6 +79,8 @@ pub fields_read : (ws xs : List ℕ) (book : List ℕ) (at : ℕ) (rest : List �
     → Fit ws xs → drop at book ≡ field_bytes ws xs ++ rest → fields_at ws book at ≡ xs
 unfolding Fit field_bytes fields_at
 fields_read [] [] book at rest f e = refl
+fields_read [] (x ∷ xs) book at rest f e = elim f [ ]
+fields_read (w ∷ ws) [] book at rest f e = elim f [ ]
 fields_read (w ∷ ws) (x ∷ xs) book at rest f e =
     let e' = e ∙ append_assoc (little_endian w x) (field_bytes ws xs) rest in
     let here = number_read w x book at (field_bytes ws xs ++ rest) f.0 e' in

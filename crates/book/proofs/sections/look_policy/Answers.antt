@@ -1,0 +1,47 @@
+-- Each test is the fault that it looks for, in their order; the policy's own faults are what its fields make, at the field that they speak of.
+-- Assumes nothing.
+use mathlib.Core.Path.{◌≡◌, sym, ap, ◌∙◌}
+use Prim.Native.Nat.{ℕ, ◌+◌}
+use lib.Dec.{ltb}
+use lib.ListN.{length}
+use Rattle.book.specs.Layout.{policy_widths, form_has_editions}
+use Rattle.book.specs.Reading.{policies_of, width, entry_look, fields_at, past_listed, by_made, placed}
+use Rattle.book.specs.declared.Fault.TheVariants.{Short, Task, Policy}
+use Rattle.book.specs.declared.Look.TheVariants.{Faulty}
+use Rattle.book.specs.Laws.First.{amiss_here, past_amiss, faulty_at, past_fault}
+use Rattle.book.proofs.Fields.{policy_field}
+use Rattle.book.proofs.sections.look_policy.Goals as goal
+use Rattle.book.proofs.sections.look_policy.Goals.{After-cut}
+
+-- a policy is cut by its whole width
+short : (c : After-cut) → let a = c.args in c.cut.result ≡ ltb (length a.book.now) (a.at + width (policies_of a.form))
+short c = let a = c.args in
+    c.cut.ensures ∙ ap (λ (w : ℕ). ltb (length a.book.now) (a.at + w)) c.policy_width.ensures
+
+pub returns-then-cut : goal.returns-then-cut
+unfolding entry_look
+returns-then-cut c = faulty_at Short _ (short (goal.at.returns-then-cut c).After-cut) c.if-cut.true c.cut_policy.ensures
+
+pub returns-then-past_listed : goal.returns-then-past_listed
+unfolding entry_look fields_at
+returns-then-past_listed c = let a = c.args in
+    past_fault Short _ (short (goal.at.returns-then-past_listed c).After-cut) c.if-cut.false
+    (ap (placed (policy_widths (form_has_editions a.form)) a.at)
+    (amiss_here Task 0 _ (c.past_listed.ensures ∙ ap (past_listed _) c.four.ensures) c.if-past_listed.true))
+
+pub returns-in-Refused : goal.returns-in-Refused
+unfolding entry_look fields_at
+returns-in-Refused c = let a = c.args in
+    past_fault Short _ (short (goal.at.returns-in-Refused c).After-cut) c.if-cut.false
+    (ap (Faulty (Policy c.in-Refused.refusal)) (ap (λ (n : ℕ). a.at + n) c.policy_offset.ensures ∙ (policy_field (form_has_editions a.form) c.in-Refused.refusal a.at).1)
+    ∙ ap (placed (policy_widths (form_has_editions a.form)) a.at)
+    (past_amiss Task 0 (c.past_listed.ensures ∙ ap (past_listed _) c.four.ensures) c.if-past_listed.false
+    (ap by_made (sym c.in-Refused.is ∙ c.policy_from.ensures))))
+
+pub returns-in-Policy : goal.returns-in-Policy
+unfolding entry_look fields_at
+returns-in-Policy c = let a = c.args in
+    past_fault Short _ (short (goal.at.returns-in-Policy c).After-cut) c.if-cut.false
+    (ap (placed (policy_widths (form_has_editions a.form)) a.at)
+    (past_amiss Task 0 (c.past_listed.ensures ∙ ap (past_listed _) c.four.ensures) c.if-past_listed.false
+    (ap by_made (sym c.in-Policy.is ∙ c.policy_from.ensures))))
