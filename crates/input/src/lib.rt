@@ -5,8 +5,10 @@
 ghost use Rattle.std.specs.Prelude.{◌≡◌, ◌+◌, ◌-◌, ◌≤◌, length};
 ghost use Rattle.input.specs.Input.{grown_by, after_read, answer, Moved, OneRead, Settled};
 
+use std::fs::File;
 use std::io;
 use std::io::Read;
+use std::rt::Files;
 
 // What is known of the input: that it cannot be read; that it is whole, with so many bytes at the front of the buffer; or that so many are
 // there and more may follow.
@@ -66,5 +68,16 @@ pub fn read_all<R: Read>(from: &mut R, buffer: &mut [u8]) -> Progress
             return input;
         };
         have = more;
+    }
+}
+
+// The same of a file; one that cannot be opened cannot be read.
+pub fn read_file<F: Files>(files: &F, path: &str, buffer: &mut [u8]) -> Progress
+    ensures settled { Settled result buffer.new }
+    ensures long { length buffer.new ≡ length buffer.old }
+{
+    match File::open(files, path) {
+        Ok(mut file) => read_all(&mut file, buffer),
+        Err(_) => Progress::Failed,
     }
 }
