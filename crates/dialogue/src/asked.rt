@@ -4,6 +4,7 @@ use crate::words::Number;
 use crate::{books, said, words};
 use live::{Objection, Outcome, Roster, Told};
 use roster::{Policy, Reply};
+use std::rt::Files;
 
 // As much as the sheet allows.
 const ALLOWANCE: u32 = 1000000;
@@ -21,7 +22,7 @@ fn is_line(text: &[u8], word: &[u8], behind: usize) -> bool {
     if behind >= 10 {
         return false;
     }
-    words::has_words(text, behind + 1) && check::same(words::word(text, 0), word)
+    words::has_words(text, behind + 1) && words::word(text, 0) == word
 }
 
 fn is_number(text: &[u8], which: usize) -> bool {
@@ -41,78 +42,80 @@ fn value(text: &[u8], which: usize) -> u32 {
 
 // ---- calls
 
-fn done(place: usize) -> bool {
-    said::text(b"ok, place");
-    said::number(b' ', place as u64);
-    said::end()
+fn done(rt: &impl Print, place: usize) -> bool {
+    said::text(rt, b"ok, place");
+    said::number(rt, b' ', place as u64);
+    said::end(rt)
 }
 
 // The call's answer, and the board that it leaves.
-fn called(board: Board, told: Told) -> Board {
+fn called(rt: &impl Print, board: Board, told: Told) -> Board {
     let outcome = told.outcome;
     let is_heard = match outcome {
-        Outcome::Done(place) => done(place),
-        Outcome::Refused(objection) => said::objection(objection),
+        Outcome::Done(place) => done(rt, place),
+        Outcome::Refused(objection) => said::objection(rt, objection),
     };
     let roster = told.roster;
     board.with(roster).heard(is_heard)
 }
 
 // A line is a call, or a question, which leaves the board as it is.
-pub(crate) fn answer(board: Board, text: &[u8]) -> Board {
+pub(crate) fn answer(rt: &(impl Files + Print), board: Board, text: &[u8]) -> Board {
     let roster = board.roster;
     if is_line(text, b"hire", 1) && is_number(text, 1) {
-        return called(board, roster.hire(value(text, 1)));
+        return called(rt, board, roster.hire(value(text, 1)));
     }
     if is_line(text, b"leave", 1) && is_number(text, 1) {
-        return called(board, roster.leave(value(text, 1)));
+        return called(rt, board, roster.leave(value(text, 1)));
     }
     if is_line(text, b"grant", 2) && is_number(text, 1) && is_number(text, 2) {
         return called(
+            rt,
             board,
             roster.grant(value(text, 1), board.bit(value(text, 2))),
         );
     }
     if is_line(text, b"revoke", 2) && is_number(text, 1) && is_number(text, 2) {
         return called(
+            rt,
             board,
             roster.revoke(value(text, 1), board.bit(value(text, 2))),
         );
     }
-    board.heard(question(board, text))
+    board.heard(question(rt, board, text))
 }
 
 // ---- questions
 
-fn question(board: Board, text: &[u8]) -> bool {
+fn question(rt: &(impl Files + Print), board: Board, text: &[u8]) -> bool {
     if is_line(text, b"who", 1) && is_number(text, 1) {
-        return who(board, board.bit(value(text, 1)));
+        return who(rt, board, board.bit(value(text, 1)));
     }
     if is_asked(text, b"ask") && is_number(text, 2) {
-        return policy(board, text, true);
+        return policy(rt, board, text, true);
     }
     if is_asked(text, b"full") && is_number(text, 2) {
-        return policy(board, text, false);
+        return policy(rt, board, text, false);
     }
     if is_asked(text, b"away") {
-        return away(board, text);
+        return away(rt, board, text);
     }
     if is_line(text, b"show", 0) {
-        return show(board);
+        return show(rt, board);
     }
     if is_line(text, b"sheet", 0) {
-        return books::sheet(board);
+        return books::sheet(rt, board);
     }
     if is_line(text, b"write", 1) {
-        return books::write(board, words::word(text, 1));
+        return books::write(rt, board, words::word(text, 1));
     }
     if is_line(text, b"help", 0) {
-        return help();
+        return help(rt);
     }
     if words::has_words(text, 0) {
         return true;
     }
-    not_understood(text)
+    not_understood(rt, text)
 }
 
 // Whether the line is this word with four behind it, of which the last two say how many crews and how many to a crew; a fifth may say the edition.
@@ -142,15 +145,15 @@ fn policy_of(task: u32, away: u32, text: &[u8]) -> Policy {
 }
 
 // Who holds a permission, in the order of their places.
-fn who(board: Board, bit: u32) -> bool {
+fn who(rt: &impl Print, board: Board, bit: u32) -> bool {
     if bit > 31 {
-        return said::objection(Objection::Permission);
+        return said::objection(rt, Objection::Permission);
     }
     let roster = board.roster;
-    said::text(b"held by");
+    said::text(rt, b"held by");
     let staff = roster.staff;
-    said::people(b' ', staff, roster.holders[bit as usize]);
-    said::end()
+    said::people(rt, b' ', staff, roster.holders[bit as usize]);
+    said::end(rt)
 }
 
 fn narrow(n: u64) -> u32 {
@@ -188,7 +191,7 @@ fn with_item(board: Board, set: u64, item: &[u8], are_people: bool) -> Listed {
 // The items of a list, with commas between them; `-` is the empty list.
 fn list(board: Board, word: &[u8], are_people: bool) -> Listed {
     let mut set: u64 = 0;
-    if check::same(word, b"-") {
+    if word == b"-".as_slice() {
         return Listed::Set(set);
     }
     let mut i: usize = 0;
@@ -209,21 +212,21 @@ fn list(board: Board, word: &[u8], are_people: bool) -> Listed {
 
 // The permissions of a task; all that there are, for short.
 fn task(board: Board, word: &[u8]) -> Listed {
-    if check::same(word, b"all") {
+    if word == b"all".as_slice() {
         return Listed::Set(said::wide(board.permissions()));
     }
     list(board, word, false)
 }
 
 // A policy, by either search.
-fn policy(board: Board, text: &[u8], is_skipping: bool) -> bool {
+fn policy(rt: &impl Print, board: Board, text: &[u8], is_skipping: bool) -> bool {
     match task(board, words::word(text, 1)) {
         Listed::Set(set) => {
             let roster = board.roster;
-            said::reply(roster, asked(roster, narrow(set), text, is_skipping))
+            said::reply(rt, roster, asked(roster, narrow(set), text, is_skipping))
         }
-        Listed::NoSuch => said::objection(Objection::Permission),
-        Listed::Not => not_understood(text),
+        Listed::NoSuch => said::objection(rt, Objection::Permission),
+        Listed::Not => not_understood(rt, text),
     }
 }
 
@@ -236,38 +239,38 @@ fn asked(roster: Roster, task: u32, text: &[u8], is_skipping: bool) -> Reply {
 }
 
 // The crews that there are with these people away.
-fn away(board: Board, text: &[u8]) -> bool {
+fn away(rt: &impl Print, board: Board, text: &[u8]) -> bool {
     match list(board, words::word(text, 1), true) {
-        Listed::Set(absent) => without(board, absent, text),
-        Listed::NoSuch => said::objection(Objection::Nobody),
-        Listed::Not => not_understood(text),
+        Listed::Set(absent) => without(rt, board, absent, text),
+        Listed::NoSuch => said::objection(rt, Objection::Nobody),
+        Listed::Not => not_understood(rt, text),
     }
 }
 
-fn without(board: Board, absent: u64, text: &[u8]) -> bool {
+fn without(rt: &impl Print, board: Board, absent: u64, text: &[u8]) -> bool {
     match task(board, words::word(text, 2)) {
         Listed::Set(set) => {
             let roster = board.roster;
             let policy = policy_of(narrow(set), 0, text);
-            said::reply(roster, live::ask_named(roster, policy, absent, ALLOWANCE))
+            said::reply(rt, roster, live::ask_named(roster, policy, absent, ALLOWANCE))
         }
-        Listed::NoSuch => said::objection(Objection::Permission),
-        Listed::Not => not_understood(text),
+        Listed::NoSuch => said::objection(rt, Objection::Permission),
+        Listed::Not => not_understood(rt, text),
     }
 }
 
 // ---- the rest
 
 // The permissions, and a line for everybody who is there.
-fn show(board: Board) -> bool {
-    said::text(b"permissions");
-    said::codes(board, board.permissions());
-    let mut is_heard = said::end();
+fn show(rt: &impl Print, board: Board) -> bool {
+    said::text(rt, b"permissions");
+    said::codes(rt, board, board.permissions());
+    let mut is_heard = said::end(rt);
     let roster = board.roster;
     let mut place: usize = 0;
     while place < 64 {
         if (roster.occupied >> place) & 1 == 1 {
-            is_heard = person(board, place, roster.staff[place], roster.holdings[place]);
+            is_heard = person(rt, board, place, roster.staff[place], roster.holdings[place]);
         }
         place += 1;
     }
@@ -275,45 +278,45 @@ fn show(board: Board) -> bool {
 }
 
 // Who is at a place, and holds what.
-fn person(board: Board, place: usize, number: u32, held: u32) -> bool {
-    said::text(b"place");
-    said::number(b' ', place as u64);
-    said::text(b",");
-    said::number(b' ', said::wide(number));
-    said::text(b" holds");
-    said::codes(board, held);
-    said::end()
+fn person(rt: &impl Print, board: Board, place: usize, number: u32, held: u32) -> bool {
+    said::text(rt, b"place");
+    said::number(rt, b' ', place as u64);
+    said::text(rt, b",");
+    said::number(rt, b' ', said::wide(number));
+    said::text(rt, b" holds");
+    said::codes(rt, board, held);
+    said::end(rt)
 }
 
 // A line that is a word known here says how that word goes on; any other, which words there are.
-fn not_understood(text: &[u8]) -> bool {
+fn not_understood(rt: &impl Print, text: &[u8]) -> bool {
     let word = words::word(text, 0);
-    said::text(b"not understood: ");
-    if check::same(word, b"hire") || check::same(word, b"leave") {
-        said::text(b"a staff number goes with it, from 0 to 4294967295: hire 101\n")
-    } else if check::same(word, b"grant") || check::same(word, b"revoke") {
-        said::text(b"a staff number and a permission go with it: grant 101 20\n")
-    } else if check::same(word, b"who") {
-        said::text(b"a permission goes with it: who 20\n")
-    } else if check::same(word, b"ask") || check::same(word, b"full") {
-        said::text(
+    said::text(rt, b"not understood: ");
+    if word == b"hire".as_slice() || word == b"leave".as_slice() {
+        said::text(rt, b"a staff number goes with it, from 0 to 4294967295: hire 101\n")
+    } else if word == b"grant".as_slice() || word == b"revoke".as_slice() {
+        said::text(rt, b"a staff number and a permission go with it: grant 101 20\n")
+    } else if word == b"who".as_slice() {
+        said::text(rt, b"a permission goes with it: who 20\n")
+    } else if word == b"ask".as_slice() || word == b"full".as_slice() {
+        said::text(rt, 
             b"a task and three numbers go with it, how many away, crews, to a crew, and then an edition or none: ask 10,20 1 2 2\n",
         )
-    } else if check::same(word, b"away") {
-        said::text(
+    } else if word == b"away".as_slice() {
+        said::text(rt, 
             b"people, a task and two numbers go with it, crews, to a crew, and then an edition or none: away 101,104 10,20 2 2\n",
         )
-    } else if check::same(word, b"write") {
-        said::text(b"the name of a new file goes with it, without blanks: write new.book\n")
+    } else if word == b"write".as_slice() {
+        said::text(rt, b"the name of a new file goes with it, without blanks: write new.book\n")
     } else {
-        said::text(
+        said::text(rt, 
             b"say hire, leave, grant, revoke, who, ask, full, away, show, sheet, write, or help\n",
         )
     }
 }
 
-fn help() -> bool {
-    said::text(
+fn help(rt: &impl Print) -> bool {
+    said::text(rt, 
         b"hire 101               somebody comes, at the lowest free place
 leave 101              and goes again
 grant 101 20           holds permission 20 from now on

@@ -2,6 +2,10 @@
 use crate::board::Board;
 use crate::said;
 use lines::Writing;
+use std::fs::{File, OpenFile};
+use std::io;
+use std::io::Write;
+use std::rt::Files;
 use values::Wrote;
 
 // The first bytes of a buffer; none where there are not so many.
@@ -21,54 +25,72 @@ fn lay_out(board: Board, out: &mut [u8]) -> Wrote {
 }
 
 // Why there is no book; the codes and policies of a good book, and rows that a roster gives back, have one always.
-fn no_book(why: u32) -> bool {
-    said::text(b"there is no such book:");
-    said::number(b' ', said::wide(why));
-    said::end()
+fn no_book(rt: &impl Print, why: u32) -> bool {
+    said::text(rt, b"there is no such book:");
+    said::number(rt, b' ', said::wide(why));
+    said::end(rt)
 }
 
 // What `bin/sheet` prints of the roster's book.
-pub(crate) fn sheet(board: Board) -> bool {
+pub(crate) fn sheet(rt: &impl Print, board: Board) -> bool {
     let values = board.values;
     if values.policy_count == 0 {
-        return said::text(b"there are no policies\n");
+        return said::text(rt, b"there are no policies\n");
     }
     let mut book = [0u8; values::LONGEST];
     match lay_out(board, &mut book) {
-        Wrote::Written(length) => show(front(&book, length)),
-        Wrote::Refused(why, _) => no_book(why.number()),
+        Wrote::Written(length) => show(rt, front(&book, length)),
+        Wrote::Refused(why, _) => no_book(rt, why.number()),
     }
 }
 
-fn show(book: &[u8]) -> bool {
+fn show(rt: &impl Print, book: &[u8]) -> bool {
     let mut text = [0u8; lines::LONGEST];
     match lines::sheet(book, &mut text) {
-        Writing::Written(length) => said::text(front(&text, length)),
+        Writing::Written(length) => said::text(rt, front(&text, length)),
         Writing::TooShort => false,
     }
 }
 
 // Writes the roster's book into a new file.
-pub(crate) fn write(board: Board, name: &[u8]) -> bool {
+pub(crate) fn write(rt: &(impl Files + Print), board: Board, name: &[u8]) -> bool {
     let mut book = [0u8; values::LONGEST];
     match lay_out(board, &mut book) {
-        Wrote::Written(length) => save(name, front(&book, length)),
-        Wrote::Refused(why, _) => no_book(why.number()),
+        Wrote::Written(length) => save(rt, name, front(&book, length)),
+        Wrote::Refused(why, _) => no_book(rt, why.number()),
     }
 }
 
+// Puts the book into the new file, as far as the system takes it.
+fn fill(file: &mut (impl Write + OpenFile), book: &[u8]) -> io::Result<()> {
+    file.write_all(book)?;
+    file.sync_all()
+}
+
 // A file that is there already is not written over.
-fn save(name: &[u8], book: &[u8]) -> bool {
-    let file = os::create(name);
-    if file < 0 {
-        return said::text(b"not written: no such file can be made, or there is one already\n");
+fn save(rt: &(impl Files + Print), name: &[u8], book: &[u8]) -> bool {
+    match created(rt, name) {
+        Ok(mut file) => filled(rt, fill(&mut file, book).is_ok(), book.len()),
+        Err(_) => said::text(
+            rt,
+            b"not written: no such file can be made, or there is one already\n",
+        ),
     }
-    let is_whole = io::write_all(file, book);
-    let closed = libc::close(file);
-    if !is_whole || closed < 0 {
-        return said::text(b"not written: the file could not be filled\n");
+}
+
+// The new file with this name, which has to be text.
+fn created<R: Files>(rt: &R, name: &[u8]) -> io::Result<R::File> {
+    match str::from_utf8(name) {
+        Ok(path) => File::create_new(rt, path),
+        Err(_) => Err(io::Error::from(io::ErrorKind::InvalidInput)),
     }
-    said::text(b"written,");
-    said::number(b' ', book.len() as u64);
-    said::text(b" bytes\n")
+}
+
+fn filled(rt: &impl Print, is_whole: bool, length: usize) -> bool {
+    if !is_whole {
+        return said::text(rt, b"not written: the file could not be filled\n");
+    }
+    said::text(rt, b"written,");
+    said::number(rt, b' ', length as u64);
+    said::text(rt, b" bytes\n")
 }

@@ -4,13 +4,16 @@
 mod asked;
 mod board;
 mod books;
-mod input;
 mod said;
+mod typed;
 mod words;
 
 use board::Board;
 use desk::Intake;
-use input::{Ended, Line};
+use input::Progress;
+use std::env::FillError;
+use std::rt::{Env, Files, Runtime};
+use typed::{Ended, Line};
 
 // The board to begin with, if there is one.
 #[derive(Clone, Copy)]
@@ -19,34 +22,28 @@ struct Start {
     is_ready: bool,
 }
 
-fn complain(text: &[u8]) {
-    io::write_all(libc::STDERR_FILENO, b"roster: ");
-    io::write_all(libc::STDERR_FILENO, text);
-    io::write_all(libc::STDERR_FILENO, b"\n");
+fn complain(rt: &impl Eprint, text: &str) {
+    let _ = eprintln!(rt; "roster: {text}");
 }
 
 // The book's number and place, as the sheet has them.
-fn complain_of_book(number: u64, place: u64) {
-    io::write_all(libc::STDERR_FILENO, b"roster: the book is not taken: bad ");
-    io::print_decimal(libc::STDERR_FILENO, number);
-    io::write_all(libc::STDERR_FILENO, b" ");
-    io::print_decimal(libc::STDERR_FILENO, place);
-    io::write_all(libc::STDERR_FILENO, b"\n");
+fn complain_of_book(rt: &impl Eprint, number: u64, place: u64) {
+    let _ = eprintln!(rt; "roster: the book is not taken: bad {number} {place}");
 }
 
 // Whether the book's rows were taken; if not, it says why.
-fn is_taken(intake: Intake) -> bool {
+fn is_taken(rt: &impl Eprint, intake: Intake) -> bool {
     match intake {
         Intake::Taken => {
             return true;
         }
-        Intake::Shared => complain(b"the book is not taken: two of its rows are one person's"),
-        Intake::Refused(fault, place) => complain_of_book(said::wide(fault.number()), place as u64),
+        Intake::Shared => complain(rt, "the book is not taken: two of its rows are one person's"),
+        Intake::Refused(fault, place) => complain_of_book(rt, said::wide(fault.number()), place as u64),
     }
     false
 }
 
-fn of_book(book: &[u8]) -> Start {
+fn of_book(rt: &impl Eprint, book: &[u8]) -> Start {
     let filled = desk::fill(book);
     let roster = filled.roster;
     let intake = filled.intake;
@@ -56,7 +53,7 @@ fn of_book(book: &[u8]) -> Start {
             values: values::of_book(book),
             is_heard: true,
         },
-        is_ready: is_taken(intake),
+        is_ready: is_taken(rt, intake),
     }
 }
 
@@ -67,44 +64,50 @@ fn unready() -> Start {
     }
 }
 
-// The roster of the book that the argument names. One byte more than the longest book has is enough to refuse what is longer.
-fn of_argument() -> Start {
-    let mut name = io::buffer();
-    let length = os::arg(1, &mut name);
-    let file = os::open_read(&name[..length]);
-    if file < 0 {
-        complain(b"the book cannot be read");
-        return unready();
-    }
+// The roster of the book with this name. One byte more than the longest book has is enough to refuse what is longer.
+fn of_name(rt: &(impl Files + Eprint), name: &str) -> Start {
     let mut book = [0u8; lines::ENOUGH];
-    let size = io::read_full(file, &mut book);
-    libc::close(file);
-    of_book(&book[..size])
+    let Progress::Whole(size) = input::read_file(rt, name, &mut book) else {
+        complain(rt, "the book cannot be read");
+        return unready();
+    };
+    of_book(rt, &book[..size])
 }
 
-fn beginning() -> Start {
-    if os::arg_count() > 1 {
-        return of_argument();
+// The name has to be text; there is no longer path.
+fn of_argument(rt: &(impl Files + Eprint), argument: Option<&[u8]>) -> Start {
+    if let Some(bytes) = argument && let Ok(name) = str::from_utf8(bytes) {
+        return of_name(rt, name);
     }
-    Start {
-        board: Board::empty(),
-        is_ready: true,
+    complain(rt, "the book cannot be read");
+    unready()
+}
+
+fn beginning(rt: &(impl Files + Env + Eprint)) -> Start {
+    let mut name = [0u8; 4096];
+    match rt.arg(1, &mut name) {
+        Ok(length) => of_argument(rt, Some(&name[..length])),
+        Err(FillError::TooLong) => of_argument(rt, None),
+        Err(FillError::NotPresent) => Start {
+            board: Board::empty(),
+            is_ready: true,
+        },
     }
 }
 
 // A line's answer.
-fn answered(board: Board, line: Line) -> Board {
+fn answered(rt: &(impl Files + Print), board: Board, line: Line) -> Board {
     if line.is_long {
-        return board.heard(said::text(b"not understood: a line has at most 1000 characters\n"));
+        return board.heard(said::text(rt, b"not understood: a line has at most 1000 characters\n"));
     }
     let bytes = line.bytes;
-    asked::answer(board, words::part(&bytes, 0, line.length))
+    asked::answer(rt, board, words::part(&bytes, 0, line.length))
 }
 
 // Whether there is a next line, and somebody to hear its answer; if the input or the output has failed, it says so.
-fn goes_on(board: Board, line: Line) -> bool {
+fn goes_on(rt: &impl Eprint, board: Board, line: Line) -> bool {
     if !board.is_heard {
-        complain(b"the output cannot be written");
+        complain(rt, "the output cannot be written");
         return false;
     }
     let ended = line.ended;
@@ -112,30 +115,31 @@ fn goes_on(board: Board, line: Line) -> bool {
         Ended::Newline => true,
         Ended::Input => false,
         Ended::Failed => {
-            complain(b"standard input cannot be read");
+            complain(rt, "standard input cannot be read");
             false
         }
     }
 }
 
 // Answers line by line until the input ends. The count of turns is one that no run uses up.
-fn talk(begun: Board) {
+fn talk<R: Runtime>(rt: &R, begun: Board) {
+    let mut from = rt.reader();
     let mut board = begun;
     let mut turns = u64::MAX;
     while turns > 0 {
-        let line = input::next_line();
-        board = answered(board, line);
-        if !goes_on(board, line) {
+        let line = typed::next_line(&mut from);
+        board = answered(rt, board, line);
+        if !goes_on(rt, board, line) {
             return;
         }
         turns -= 1;
     }
 }
 
-fn main() {
-    let start = beginning();
+fn main(rt: HostRuntime) {
+    let start = beginning(&rt);
     if start.is_ready {
         let board = start.board;
-        talk(board);
+        talk(&rt, board);
     }
 }

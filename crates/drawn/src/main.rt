@@ -6,6 +6,7 @@ mod draw;
 mod saved;
 
 use saved::Way;
+use std::io;
 use table::{Making, Shown};
 use values::Wrote;
 
@@ -103,25 +104,21 @@ fn differing(number: usize, books: usize, added: u8) -> u64 {
     differ
 }
 
-// ": N compared, M differ"
-fn show_counts(compared: usize, differ: u64) {
-    io::write_all(1, b": ");
-    io::print_decimal(1, compared as u64);
-    io::write_all(1, b" compared, ");
-    io::print_decimal(1, differ);
-    io::write_all(1, b" differ\n");
+// "NAME: N compared, M differ"
+fn show_counts(rt: &impl Print, name: &str, compared: usize, differ: u64) -> io::Result<()> {
+    println!(rt; "{name}: {compared} compared, {differ} differ")
 }
 
-fn show_way(number: usize) {
-    saved::show_name(number);
-    show_counts(BOOKS, differing(number, BOOKS, 0));
-    io::write_all(1, b"planted, ");
-    saved::show_name(number);
-    show_counts(PLANTED, differing(number, PLANTED, 1));
+fn show_way(rt: &impl Print, number: usize) -> io::Result<()> {
+    let name = saved::name(number);
+    show_counts(rt, name, BOOKS, differing(number, BOOKS, 0))?;
+    print!(rt; "planted, ")?;
+    show_counts(rt, name, PLANTED, differing(number, PLANTED, 1))
 }
 
-fn main() {
+fn main(rt: HostRuntime) -> io::Result<()> {
     for number in 0..saved::WAYS {
-        show_way(number);
+        show_way(&rt, number)?;
     }
+    Ok(())
 }

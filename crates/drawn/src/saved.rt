@@ -38,18 +38,15 @@ pub(crate) fn by_number(number: usize) -> Way {
     }
 }
 
-pub(crate) fn show_name(number: usize) {
+pub(crate) fn name(number: usize) -> &'static str {
     match number {
-        0 => io::write_all(1, b"as shown"),
-        1 => io::write_all(1, b"semicolons"),
-        2 => io::write_all(1, b"tabs"),
-        3 => io::write_all(1, b"carriage returns"),
-        4 => io::write_all(1, b"a column of names"),
-        _ => io::write_all(
-            1,
-            b"semicolons, carriage returns, names and a byte order mark",
-        ),
-    };
+        0 => "as shown",
+        1 => "semicolons",
+        2 => "tabs",
+        3 => "carriage returns",
+        4 => "a column of names",
+        _ => "semicolons, carriage returns, names and a byte order mark",
+    }
 }
 
 impl Place {

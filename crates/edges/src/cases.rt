@@ -4,6 +4,8 @@ use crate::books::{book_at, load};
 use crate::line::Line;
 use crate::words::{after, behind, byte_at, is_word, line_end, next_word, part};
 use crate::{asked, explained, listed, pages, parts, reader, sheets};
+use std::io;
+use std::rt::Files;
 
 // No file here has more lines or more groups.
 const CASES: usize = 1000;
@@ -43,7 +45,7 @@ impl Outcome {
 }
 
 // What came, for a case that makes one comparison.
-fn came(text: &[u8], at: usize, wanted: usize) -> Line {
+fn came(rt: &impl Files, text: &[u8], at: usize, wanted: usize) -> Line {
     let asked = next_word(text, at);
     if is_word(text, at, b"skipping") {
         return asked::skipping(text, asked);
@@ -58,52 +60,52 @@ fn came(text: &[u8], at: usize, wanted: usize) -> Line {
         return explained::why(text, asked);
     }
     if is_word(text, at, b"book") {
-        return reader::read(book_at(text, asked));
+        return reader::read(book_at(rt, text, asked));
     }
     if is_word(text, at, b"sheet") {
-        return sheets::sheet(book_at(text, asked));
+        return sheets::sheet(book_at(rt, text, asked));
     }
     if is_word(text, at, b"prints") {
-        return sheets::prints(text, wanted, book_at(text, asked));
+        return sheets::prints(rt, text, wanted, book_at(rt, text, asked));
     }
     if is_word(text, at, b"short") {
-        return sheets::short(book_at(text, asked));
+        return sheets::short(book_at(rt, text, asked));
     }
     if is_word(text, at, b"writes") {
-        return pages::writes(text, asked);
+        return pages::writes(rt, text, asked);
     }
     if is_word(text, at, b"again") {
-        return pages::again(book_at(text, asked));
+        return pages::again(book_at(rt, text, asked));
     }
-    came_of_part(text, at)
+    came_of_part(rt, text, at)
 }
 
-fn came_of_part(text: &[u8], at: usize) -> Line {
+fn came_of_part(rt: &impl Files, text: &[u8], at: usize) -> Line {
     let asked = next_word(text, at);
     if is_word(text, at, b"row") {
-        return parts::row(text, asked);
+        return parts::row(rt, text, asked);
     }
     if is_word(text, at, b"accounts") {
-        return parts::accounts(text, at);
+        return parts::accounts(rt, text, at);
     }
     if is_word(text, at, b"policies") {
-        return parts::policy_count(text, at);
+        return parts::policy_count(rt, text, at);
     }
     if is_word(text, at, b"policy") {
-        return parts::policy(text, asked);
+        return parts::policy(rt, text, asked);
     }
     Line::empty().word(b"no such question")
 }
 
 // The case that stands here.
-fn outcome_of(text: &[u8], at: usize) -> Outcome {
+fn outcome_of(rt: &impl Files, text: &[u8], at: usize) -> Outcome {
     let asked = next_word(text, at);
     let wanted = behind(text, at, b"=");
     if is_word(text, at, b"cuts") {
         return reader::cuts(text, asked);
     }
     if is_word(text, at, b"all") {
-        return listed::all(text, asked);
+        return listed::all(rt, text, asked);
     }
     if is_word(text, at, b"both") {
         let skipping = asked::skipping(text, asked);
@@ -112,7 +114,7 @@ fn outcome_of(text: &[u8], at: usize) -> Outcome {
             .noted(skipping.is_at(text, wanted), skipping)
             .noted(full.is_at(text, wanted), full);
     }
-    let line = came(text, at, wanted);
+    let line = came(rt, text, at, wanted);
     Outcome::none().noted(line.is_at(text, wanted), line)
 }
 
@@ -138,7 +140,7 @@ impl Tally {
 }
 
 // All cases from here to the next group.
-fn tally_of(text: &[u8], at: usize) -> Tally {
+fn tally_of(rt: &impl Files, text: &[u8], at: usize) -> Tally {
     let mut tally = Tally {
         compared: 0,
         differ: 0,
@@ -155,50 +157,55 @@ fn tally_of(text: &[u8], at: usize) -> Tally {
         if byte == b' ' || byte == b'\n' {
             tally = tally.with(Outcome::none(), place, next);
         } else {
-            tally = tally.with(outcome_of(text, place), place, next);
+            tally = tally.with(outcome_of(rt, text, place), place, next);
         }
     }
     tally
 }
 
 // "NAME: N compared, M differ"; where some differ, the first of them and what came.
-fn show(text: &[u8], name: usize, tally: Tally) {
-    io::write_all(1, part(text, name, line_end(text, name)));
-    io::write_all(1, b": ");
-    io::print_decimal(1, tally.compared);
-    io::write_all(1, b" compared, ");
-    io::print_decimal(1, tally.differ);
-    io::write_all(1, b" differ\n");
-    if tally.differ != 0 {
-        show_first(text, tally.first);
+fn show(
+    rt: &(impl Files + Print),
+    text: &[u8],
+    name: usize,
+    tally: Tally,
+) -> io::Result<()> {
+    let compared = tally.compared;
+    let differ = tally.differ;
+    rt.write_all(part(text, name, line_end(text, name)))?;
+    println!(rt; ": {compared} compared, {differ} differ")?;
+    if differ != 0 {
+        show_first(rt, text, tally.first)?;
     }
+    Ok(())
 }
 
-fn show_first(text: &[u8], at: usize) {
-    let outcome = outcome_of(text, at);
-    io::write_all(1, b"  first: ");
-    io::write_all(1, part(text, at, line_end(text, at)));
-    io::write_all(1, b"\n  came: ");
-    outcome.came.show();
-    io::write_all(1, b"\n");
+fn show_first(rt: &(impl Files + Print), text: &[u8], at: usize) -> io::Result<()> {
+    let outcome = outcome_of(rt, text, at);
+    print!(rt; "  first: ")?;
+    rt.write_all(part(text, at, line_end(text, at)))?;
+    print!(rt; "\n  came: ")?;
+    outcome.came.show(rt)?;
+    println!(rt)
 }
 
 // The groups of a text, one after the other.
-fn show_groups(text: &[u8]) {
-    let mut place = tally_of(text, 0).next;
+fn show_groups(rt: &(impl Files + Print), text: &[u8]) -> io::Result<()> {
+    let mut place = tally_of(rt, text, 0).next;
     for _ in 0..GROUPS {
         if place >= text.len() {
-            return;
+            return Ok(());
         }
-        let tally = tally_of(text, after(line_end(text, place)));
-        show(text, next_word(text, place), tally);
+        let tally = tally_of(rt, text, after(line_end(text, place)));
+        show(rt, text, next_word(text, place), tally)?;
         place = tally.next;
     }
+    Ok(())
 }
 
 // The groups of a file.
-pub(crate) fn show_file(name: &[u8]) {
-    let mut room = io::large_buffer();
-    let size = load(name, &mut room);
-    show_groups(&room[..size]);
+pub(crate) fn show_file(rt: &(impl Files + Print), name: &[u8]) -> io::Result<()> {
+    let mut room = [0u8; 65536];
+    let size = load(rt, name, &mut room);
+    show_groups(rt, &room[..size])
 }

@@ -11,6 +11,8 @@ use crate::words::{
     after, argument, behind, byte_at, is_word, line_end, narrow, next_word, part, word_behind,
 };
 use live::{Outcome, Roster, Told};
+use std::io;
+use std::rt::Files;
 
 // No history has more lines.
 const LINES: usize = 1000;
@@ -170,28 +172,26 @@ fn history_of(text: &[u8]) -> History {
 }
 
 // "NAME: N compared, M differ"; where some differ, the first of them and what came.
-fn show(name: &[u8], text: &[u8], history: History) {
-    io::write_all(1, name);
-    io::write_all(1, b": ");
-    io::print_decimal(1, history.compared);
-    io::write_all(1, b" compared, ");
-    io::print_decimal(1, history.differ);
-    io::write_all(1, b" differ\n");
-    if history.differ != 0 {
+fn show(rt: &impl Print, name: &str, text: &[u8], history: History) -> io::Result<()> {
+    let compared = history.compared;
+    let differ = history.differ;
+    println!(rt; "{name}: {compared} compared, {differ} differ")?;
+    if differ != 0 {
         let first = history.first;
         let came = history.came;
-        io::write_all(1, b"  first: ");
-        io::write_all(1, part(text, first, line_end(text, first)));
-        io::write_all(1, b"\n  came: ");
-        came.show();
-        io::write_all(1, b"\n");
+        print!(rt; "  first: ")?;
+        rt.write_all(part(text, first, line_end(text, first)))?;
+        print!(rt; "\n  came: ")?;
+        came.show(rt)?;
+        println!(rt)?;
     }
+    Ok(())
 }
 
 // The lines of a file.
-pub(crate) fn show_file(name: &[u8], file: &[u8]) {
-    let mut room = io::large_buffer();
-    let size = load(file, &mut room);
+pub(crate) fn show_file(rt: &(impl Files + Print), name: &str, file: &[u8]) -> io::Result<()> {
+    let mut room = [0u8; 65536];
+    let size = load(rt, file, &mut room);
     let text = &room[..size];
-    show(name, text, history_of(text));
+    show(rt, name, text, history_of(text))
 }

@@ -1,6 +1,7 @@
 // What came, as text: a line that is written to standard output and held against what was wanted.
 use crate::words::{after, byte_at, part};
 use roster::{Reply, Verdict};
+use std::io;
 
 const WIDTH: usize = 512;
 
@@ -61,8 +62,8 @@ impl Line {
 
     pub(crate) fn number(self, n: u64) -> Line {
         let mut digits = [0u8; 20];
-        let count = io::decimal(n, &mut digits);
-        self.word(&digits[..count])
+        let count = text::decimal(&mut digits, 0, n);
+        self.word(part(&digits, 0, count))
     }
 
     // The rows of a set, joined by commas.
@@ -146,7 +147,7 @@ impl Line {
     pub(crate) fn same(self, other: Line) -> bool {
         let mine = self.bytes;
         let others = other.bytes;
-        check::same(part(&mine, 0, self.length), part(&others, 0, other.length))
+        part(&mine, 0, self.length) == part(&others, 0, other.length)
     }
 
     // The line that stands at this place of the text.
@@ -163,8 +164,8 @@ impl Line {
         line
     }
 
-    pub(crate) fn show(self) {
+    pub(crate) fn show(self, rt: &impl Print) -> io::Result<()> {
         let bytes = self.bytes;
-        io::write_all(1, part(&bytes, 0, self.length));
+        rt.write_all(part(&bytes, 0, self.length))
     }
 }

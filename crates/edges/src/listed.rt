@@ -15,6 +15,7 @@ use crate::words::{
 };
 use accounts::Accounts;
 use roster::{Policy, Reply, Verdict};
+use std::rt::Files;
 
 // No file here has more lines.
 const LINES: usize = 1000;
@@ -148,8 +149,8 @@ fn all_of(text: &[u8]) -> Outcome {
 }
 
 // Each question of the file with the name that stands here.
-pub(crate) fn all(text: &[u8], at: usize) -> Outcome {
-    let mut room = io::large_buffer();
-    let size = load(part(text, at, word_end(text, at)), &mut room);
+pub(crate) fn all(rt: &impl Files, text: &[u8], at: usize) -> Outcome {
+    let mut room = [0u8; 65536];
+    let size = load(rt, part(text, at, word_end(text, at)), &mut room);
     all_of(&room[..size])
 }

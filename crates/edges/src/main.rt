@@ -17,16 +17,18 @@ mod reader;
 mod sheets;
 mod words;
 
-fn main() {
-    cases::show_file(b"questions.cases");
-    cases::show_file(b"books.cases");
-    cases::show_file(b"parts.cases");
-    cases::show_file(b"sheets.cases");
-    cases::show_file(b"pages.cases");
-    cases::show_file(b"reasons.cases");
-    cases::show_file(b"editions.cases");
-    history::show_file(b"a live roster, one history", b"roster-07.txt");
-    history::show_file(b"a live roster at its edges", b"roster.history");
-    cases::show_file(b"planted.cases");
-    history::show_file(b"planted lines of a history", b"planted.history");
+use std::io;
+
+fn main(rt: HostRuntime) -> io::Result<()> {
+    cases::show_file(&rt, b"questions.cases")?;
+    cases::show_file(&rt, b"books.cases")?;
+    cases::show_file(&rt, b"parts.cases")?;
+    cases::show_file(&rt, b"sheets.cases")?;
+    cases::show_file(&rt, b"pages.cases")?;
+    cases::show_file(&rt, b"reasons.cases")?;
+    cases::show_file(&rt, b"editions.cases")?;
+    history::show_file(&rt, "a live roster, one history", b"roster-07.txt")?;
+    history::show_file(&rt, "a live roster at its edges", b"roster.history")?;
+    cases::show_file(&rt, b"planted.cases")?;
+    history::show_file(&rt, "planted lines of a history", b"planted.history")
 }

@@ -12,6 +12,7 @@ use crate::words::{
 };
 use book::{Form, Row};
 use roster::Policy;
+use std::rt::Files;
 use values::{Values, Wrote};
 
 // What every byte of the buffer is before.
@@ -89,7 +90,7 @@ fn row_at(text: &[u8], at: usize) -> Row {
 }
 
 // The values with the entry that stands here. A number stands for none: it belongs to the word before it.
-fn with_entry(values: Values, text: &[u8], at: usize) -> Values {
+fn with_entry(rt: &impl Files, values: Values, text: &[u8], at: usize) -> Values {
     let first = argument(text, at, 1);
     if is_word(text, at, b"code") {
         return with_code(values, first);
@@ -101,7 +102,7 @@ fn with_entry(values: Values, text: &[u8], at: usize) -> Values {
         return with_policy(values, policy_at(text, at));
     }
     if is_word(text, at, b"of") {
-        return values_of(called(empty(), text, next_word(text, at)));
+        return values_of(called(rt, empty(), text, next_word(text, at)));
     }
     with_count(values, text, at)
 }
@@ -148,14 +149,14 @@ fn with_count(values: Values, text: &[u8], at: usize) -> Values {
 }
 
 // The values that stand from here to `room`.
-fn values_at(text: &[u8], at: usize) -> Values {
+fn values_at(rt: &impl Files, text: &[u8], at: usize) -> Values {
     let mut values = Values::none();
     let mut place = at;
     for _ in 0..WORDS {
         if is_word(text, place, b"room") {
             return values;
         }
-        values = with_entry(values, text, place);
+        values = with_entry(rt, values, text, place);
         place = next_word(text, place);
     }
     values
@@ -219,17 +220,17 @@ fn told(wrote: Wrote, bytes: [u8; ROOM]) -> Line {
     }
 }
 
-pub(crate) fn writes(text: &[u8], at: usize) -> Line {
+pub(crate) fn writes(rt: &impl Files, text: &[u8], at: usize) -> Line {
     let room = number_at(text, behind(text, at, b"room")).value as usize;
     let mut bytes = [BEFORE; ROOM];
-    let wrote = write_in(values_at(text, at), &mut bytes, room);
+    let wrote = write_in(values_at(rt, text, at), &mut bytes, room);
     told(wrote, bytes)
 }
 
 // Whether this is the book, with nothing touched behind it.
 fn is_book(book: Draft, length: usize, bytes: [u8; ROOM]) -> bool {
     let wanted = book.bytes;
-    check::same(front(&bytes, length), front(&wanted, book.length))
+    front(&bytes, length) == front(&wanted, book.length)
         && touched(bytes, length) == ROOM
 }
 

@@ -5,10 +5,11 @@ use crate::draft::front;
 use crate::line::Line;
 use crate::words::{behind, number_at};
 use book::{Listed, Seen};
+use std::rt::Files;
 
 // The row with the number that stands here, by the view: its staff number, its person number and its holdings.
-pub(crate) fn row(text: &[u8], at: usize) -> Line {
-    let book = book_at(text, behind(text, at, b"of"));
+pub(crate) fn row(rt: &impl Files, text: &[u8], at: usize) -> Line {
+    let book = book_at(rt, text, behind(text, at, b"of"));
     let row = number_at(text, at).value as usize;
     let bytes = book.bytes;
     match book::row_by_number(front(&bytes, book.length), row) {
@@ -27,8 +28,8 @@ fn wide(n: u32) -> u64 {
 }
 
 // The number of rows of the book's accounts, and what stands in their first five places and in the last: the holdings and the person number.
-pub(crate) fn accounts(text: &[u8], at: usize) -> Line {
-    let book = book_at(text, behind(text, at, b"of"));
+pub(crate) fn accounts(rt: &impl Files, text: &[u8], at: usize) -> Line {
+    let book = book_at(rt, text, behind(text, at, b"of"));
     let bytes = book.bytes;
     let accounts = book::accounts_of(front(&bytes, book.length));
     let held = accounts.holdings;
@@ -47,15 +48,15 @@ fn with_account(line: Line, holdings: u32, person: u32) -> Line {
         .number(wide(person))
 }
 
-pub(crate) fn policy_count(text: &[u8], at: usize) -> Line {
-    let book = book_at(text, behind(text, at, b"of"));
+pub(crate) fn policy_count(rt: &impl Files, text: &[u8], at: usize) -> Line {
+    let book = book_at(rt, text, behind(text, at, b"of"));
     let bytes = book.bytes;
     Line::empty().number(book::policy_count(front(&bytes, book.length)) as u64)
 }
 
 // The policy with the index that stands here: P;s,d,t;E.
-pub(crate) fn policy(text: &[u8], at: usize) -> Line {
-    let book = book_at(text, behind(text, at, b"of"));
+pub(crate) fn policy(rt: &impl Files, text: &[u8], at: usize) -> Line {
+    let book = book_at(rt, text, behind(text, at, b"of"));
     let index = number_at(text, at).value as usize;
     let bytes = book.bytes;
     match book::policy_at(front(&bytes, book.length), index) {

@@ -5,6 +5,7 @@ use crate::draft::{Draft, front};
 use crate::line::Line;
 use crate::words::{byte_at, part, word_end};
 use lines::Writing;
+use std::rt::Files;
 
 // The front of a text as a line.
 fn on_one_line(text: &[u8], length: usize) -> Line {
@@ -35,15 +36,15 @@ fn printed(book: Draft, wanted: &[u8]) -> bool {
     let bytes = book.bytes;
     let mut out = [0u8; lines::LONGEST];
     match lines::sheet(front(&bytes, book.length), &mut out) {
-        Writing::Written(length) => check::same(part(&out, 0, length), wanted),
+        Writing::Written(length) => part(&out, 0, length) == wanted,
         Writing::TooShort => false,
     }
 }
 
 // The name of the file whose text is wanted, if the book prints just that; else the front of what it prints.
-pub(crate) fn prints(text: &[u8], wanted: usize, book: Draft) -> Line {
-    let mut room = io::large_buffer();
-    let size = load(part(text, wanted, word_end(text, wanted)), &mut room);
+pub(crate) fn prints(rt: &impl Files, text: &[u8], wanted: usize, book: Draft) -> Line {
+    let mut room = [0u8; 65536];
+    let size = load(rt, part(text, wanted, word_end(text, wanted)), &mut room);
     if printed(book, &room[..size]) {
         return Line::copied(text, wanted);
     }

@@ -1,7 +1,17 @@
 -- What the answers of the reads say of the input. Nothing here is proved: these are definitions.
-use Rattle.std.specs.Prelude.{◌≡◌, ◌⊎◌, true, false, List, ℕ, zero, suc, ◌+◌, ◌≤◌, ◌<◌, ltb, ℤ, pos, negsuc, length, take}
+use Rattle.std.specs.Prelude.{◌≡◌, ◌⊎◌, true, false, Result, Ok, Err, List, ℕ, zero, suc, ◌+◌, ◌≤◌, ◌<◌, ltb, ℤ, pos, negsuc, length, take}
 use Rattle.input.specs.declared.Progress.{Progress}
 use Rattle.input.specs.declared.Progress.TheVariants.{Failed, Whole, More}
+
+-- What a read that was handed n bytes may answer: -1, or how many bytes it moved, at most n.
+abbrev pub Moved : ℕ → ℤ → Type 0
+Moved n (pos k) = k ≤ n
+Moved n (negsuc k) = k ≡ 0
+
+-- The answer of a read as that number: -1 where it failed.
+abbrev pub answer : {E : Type 0} → Result ℕ E → ℤ
+answer (Ok n) = pos n
+answer (Err e) = negsuc 0
 
 -- So many bytes more, behind those that were there, in a buffer with room for so many. None is the end of the input; and a full buffer is a whole
 -- input, however many follow: it has as many as decide.

@@ -1,9 +1,14 @@
-// Reading standard input into a lent buffer, as the programs do that take a book or a table. What a read does to the buffer is assumed; what is made
-// of its answer is said here, read by read.
+// Reading an input, as standard input, into a lent buffer, as the programs do that take a book or a table. Of a reader is known what std says of
+// `read`; what is made of its answer is said here, read by read.
 #![tactic(auto)]
+
 ghost use Rattle.std.specs.Prelude.{◌≡◌, ◌+◌, ◌-◌, ◌≤◌, length};
-ghost use Rattle.libc.specs.Io.{Moved};
-ghost use Rattle.input.specs.Input.{grown_by, after_read, OneRead, Settled};
+ghost use Rattle.input.specs.Input.{grown_by, after_read, answer, Moved, OneRead, Settled};
+
+use std::fs::File;
+use std::io;
+use std::io::Read;
+use std::rt::Files;
 
 // What is known of the input: that it cannot be read; that it is whole, with so many bytes at the front of the buffer; or that so many are
 // there and more may follow.
@@ -31,37 +36,48 @@ fn grown_by(room: usize, have: usize, more: usize) -> Progress
 }
 
 // What a read's answer says, where so many bytes were there before it.
-fn after_read(room: usize, have: usize, got: isize) -> Progress
-    requires { (have ≤ room) × Moved (room - have) got }
-    ensures { result ≡ after_read room have got }
+fn after_read(room: usize, have: usize, got: io::Result<usize>) -> Progress
+    requires { (have ≤ room) × Moved (room - have) (answer got) }
+    ensures { result ≡ after_read room have (answer got) }
 {
-    if got < 0 {
+    let Ok(more) = got else {
         return Progress::Failed;
-    }
-    grown_by(room, have, got as usize)
+    };
+    grown_by(room, have, more)
 }
 
 // One read, behind the bytes that are there already, which stay as they are.
-fn read_on(buffer: &mut [u8], have: usize) -> Progress
+fn read_on<R: Read>(from: &mut R, buffer: &mut [u8], have: usize) -> Progress
     requires { have ≤ length buffer.old }
     ensures { OneRead have buffer.old buffer.new result }
 {
     let room = buffer.len();
-    let got = libc::read(libc::STDIN_FILENO, &mut buffer[have..]);
+    let got = from.read(&mut buffer[have..]);
     after_read(room, have, got)
 }
 
 // Reads until the input is whole or a read fails, in however many pieces it comes. A full buffer is whole: the caller lends as many bytes as decide.
-pub fn read_all(buffer: &mut [u8]) -> Progress
+pub fn read_all<R: Read>(from: &mut R, buffer: &mut [u8]) -> Progress
     ensures settled { Settled result buffer.new }
     ensures long { length buffer.new ≡ length buffer.old }
 {
     let mut have = 0;
     loop {
-        let input = read_on(buffer, have);
+        let input = read_on(from, buffer, have);
         let Progress::More(more) = input else {
             return input;
         };
         have = more;
+    }
+}
+
+// The same of a file; one that cannot be opened cannot be read.
+pub fn read_file<F: Files>(files: &F, path: &str, buffer: &mut [u8]) -> Progress
+    ensures settled { Settled result buffer.new }
+    ensures long { length buffer.new ≡ length buffer.old }
+{
+    match File::open(files, path) {
+        Ok(mut file) => read_all(&mut file, buffer),
+        Err(_) => Progress::Failed,
     }
 }

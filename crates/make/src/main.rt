@@ -25,15 +25,15 @@ fn made(table: &[u8], out: &mut [u8]) -> Said
 {
     match table::make(table, out) {
         Making::Made(length) => Said {
-            stream: libc::STDOUT_FILENO,
+            stream: output::OUTPUT,
             length: length,
         },
         Making::Wrong(trouble) => Said {
-            stream: libc::STDERR_FILENO,
+            stream: output::ERRORS,
             length: words::line(out, trouble),
         },
         Making::TooShort => Said {
-            stream: libc::STDERR_FILENO,
+            stream: output::ERRORS,
             length: 0,
         },
     }
@@ -50,13 +50,13 @@ fn answer(table: &[u8], input: Progress, out: &mut [u8]) -> Said
     made(&table[..size], out)
 }
 
-fn main() {
+fn main(rt: HostRuntime) {
     let mut table = [0u8; table::ENOUGH];
-    let input = input::read_all(&mut table);
+    let input = input::read_all(&mut rt.stdin(), &mut table);
     let mut out = [0u8; ROOM];
     let said = answer(&table, input, &mut out);
-    if !output::written(said, &out) {
+    if !output::written(&mut rt.stdout(), &mut rt.stderr(), said, &out) {
         let sorry = output::complaint(b"book: the output cannot be written\n", &mut out);
-        output::written(sorry, &out);
+        output::written(&mut rt.stdout(), &mut rt.stderr(), sorry, &out);
     }
 }

@@ -1,8 +1,17 @@
-// What the programs say: so many bytes at the front of a buffer, to a stream. What a write does is libc's own contract, which is assumed.
+// What the programs say: so many bytes at the front of a buffer, to a stream. No clause can say what reaches a stream: of a write is known what std
+// says of it.
 #![tactic(auto)]
+
 ghost use Rattle.std.specs.Prelude.{◌≡◌};
 ghost use Rattle.text.specs.Text.{fitting};
 ghost use Rattle.output.specs.Says.{errors, Says};
+
+use std::io::Write;
+
+// The streams by their numbers: standard output and standard error.
+pub const OUTPUT: i32 = 1;
+
+pub const ERRORS: i32 = 2;
 
 // What is to be written: so many bytes from the front of the buffer, to this stream.
 #[derive(Clone, Copy)]
@@ -18,7 +27,7 @@ pub fn complaint(words: &[u8], out: &mut [u8]) -> Said
 {
     let length = text::word(out, 0, words);
     Said {
-        stream: libc::STDERR_FILENO,
+        stream: ERRORS,
         length: length,
     }
 }
@@ -32,9 +41,14 @@ fn front(bytes: &[u8], length: usize) -> &[u8] {
     }
 }
 
-// Writes what is said, and answers whether all of it was written.
-pub fn written(said: Said, out: &[u8]) -> bool
+// Writes what is said, and answers whether all of it was written. There is no other stream than the two that are lent here.
+pub fn written<W: Write, E: Write>(output: &mut W, errors: &mut E, said: Said, out: &[u8]) -> bool
     ensures kept { out.exit.now ≡ out.entry.now }
 {
-    io::write_all(said.stream, front(out, said.length))
+    let text = front(out, said.length);
+    match said.stream {
+        OUTPUT => output.write_all(text).is_ok(),
+        ERRORS => errors.write_all(text).is_ok(),
+        _ => false,
+    }
 }

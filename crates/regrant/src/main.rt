@@ -1,8 +1,11 @@
 // One person's holdings in a book changed, and the book written again: the code that README shows under "Writing a book". Row 1 of book B, 102, who
 // holds 10 alone, gets to hold 10 and 20; the sheet is printed before and after.
 #![tactic(auto)]
+use input::Progress;
 use lines::Writing;
 use roster::Policy;
+use std::io;
+use std::rt::Files;
 use values::Wrote;
 
 // The book with these holdings in this row, at the front of the buffer, or why it is not written. A refused book has no values, and so gives 12; a
@@ -26,37 +29,37 @@ fn front(bytes: &[u8], length: usize) -> &[u8] {
     }
 }
 
-fn show_sheet(book: &[u8]) {
+fn show_sheet(rt: &impl Print, book: &[u8]) -> io::Result<()> {
     let mut text = [0u8; lines::LONGEST];
-    if let Writing::Written(length) = lines::sheet(book, &mut text) {
-        io::write_all(1, front(&text, length));
+    match lines::sheet(book, &mut text) {
+        Writing::Written(length) => rt.write_all(front(&text, length)),
+        Writing::TooShort => Ok(()),
     }
 }
 
-fn show_number(before: &[u8], n: u64, after: &[u8]) {
-    io::write_all(1, before);
-    io::print_decimal(1, n);
-    io::write_all(1, after);
+// How many bytes the file has; none where it cannot be read.
+fn load(rt: &impl Files, name: &str, room: &mut [u8]) -> usize {
+    match input::read_file(rt, name, room) {
+        Progress::Whole(length) => length,
+        _ => 0,
+    }
 }
 
-fn wide(n: u32) -> u64 {
-    n as u64
-}
-
-fn main() {
+fn main(rt: HostRuntime) -> io::Result<()> {
     let mut bytes = [0u8; values::LONGEST];
-    let file = os::open_read(b"b.book");
-    let length = io::read_full(file, &mut bytes);
-    libc::close(file);
+    let length = load(&rt, "b.book", &mut bytes);
     let book = front(&bytes, length);
-    show_sheet(book);
+    show_sheet(&rt, book)?;
 
     let mut out = [0u8; values::LONGEST];
     match regrant(book, 1, 3, &mut out) {
         Wrote::Written(length) => {
-            show_number(b"written, ", length as u64, b" bytes\n");
-            show_sheet(front(&out, length));
+            println!(rt; "written, {length} bytes")?;
+            show_sheet(&rt, front(&out, length))
         }
-        Wrote::Refused(why, _) => show_number(b"not written, ", wide(why.number()), b"\n"),
+        Wrote::Refused(why, _) => {
+            let number = why.number();
+            println!(rt; "not written, {number}")
+        }
     }
 }

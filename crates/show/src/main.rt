@@ -26,18 +26,18 @@ fn answer(book: &[u8], input: Progress, out: &mut [u8]) -> Said
         Shown::TooShort => 0,
     };
     Said {
-        stream: libc::STDOUT_FILENO,
+        stream: output::OUTPUT,
         length: length,
     }
 }
 
-fn main() {
+fn main(rt: HostRuntime) {
     let mut book = [0u8; lines::ENOUGH];
-    let input = input::read_all(&mut book);
+    let input = input::read_all(&mut rt.stdin(), &mut book);
     let mut out = [0u8; table::LONGEST];
     let said = answer(&book, input, &mut out);
-    if !output::written(said, &out) {
+    if !output::written(&mut rt.stdout(), &mut rt.stderr(), said, &out) {
         let sorry = output::complaint(b"book: the output cannot be written\n", &mut out);
-        output::written(sorry, &out);
+        output::written(&mut rt.stdout(), &mut rt.stderr(), sorry, &out);
     }
 }

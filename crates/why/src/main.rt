@@ -138,18 +138,18 @@ fn said(book: &[u8], out: &mut [u8]) -> usize {
     }
 }
 
-fn main() {
+fn main(rt: HostRuntime) {
     let mut book = [0u8; lines::ENOUGH];
-    match input::read_all(&mut book) {
+    match input::read_all(&mut rt.stdin(), &mut book) {
         Progress::Whole(size) => {
             let mut out = [0u8; ROOM];
             let length = said(front(&book, size), &mut out);
-            if !io::write_all(libc::STDOUT_FILENO, front(&out, length)) {
-                io::write_all(libc::STDERR_FILENO, b"why: the output cannot be written\n");
+            if rt.write_all(front(&out, length)).is_err() {
+                let _ = rt.eprintln("why: the output cannot be written");
             }
         }
         _ => {
-            io::write_all(libc::STDERR_FILENO, b"why: standard input cannot be read\n");
+            let _ = rt.eprintln("why: standard input cannot be read");
         }
     }
 }

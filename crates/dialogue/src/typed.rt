@@ -1,5 +1,7 @@
 // Standard input, line by line. Bytes are read one at a time, so that a line is answered as soon as it is whole and nothing behind it is taken.
 
+use std::io::Read;
+
 // A longer line is not understood.
 pub const WIDTH: usize = 1000;
 
@@ -28,16 +30,13 @@ pub struct Line {
     pub ended: Ended,
 }
 
-fn read_byte() -> Came {
+fn read_byte(from: &mut impl Read) -> Came {
     let mut room = [0u8; 1];
-    let got = libc::read(libc::STDIN_FILENO, &mut room);
-    if got < 0 {
-        return Came::Failed;
+    match from.read(&mut room) {
+        Err(_) => Came::Failed,
+        Ok(0) => Came::End,
+        Ok(_) => Came::Byte(room[0]),
     }
-    if got == 0 {
-        return Came::End;
-    }
-    Came::Byte(room[0])
 }
 
 impl Line {
@@ -84,11 +83,11 @@ impl Line {
 }
 
 // The next line, without its newline. The loop counts its turns down, from a number that no line uses up, since a proved loop has to end.
-pub(crate) fn next_line() -> Line {
+pub(crate) fn next_line(from: &mut impl Read) -> Line {
     let mut line = Line::empty();
     let mut turns = u64::MAX;
     while turns > 0 {
-        match read_byte() {
+        match read_byte(from) {
             Came::Byte(byte) => {
                 if byte == b'\n' {
                     return line.done(Ended::Newline);

@@ -7,9 +7,7 @@ use lib.ListN.{length, drop, length-take}
 use lib.Seq.{sets-eq}
 use Rattle.text.specs.Text.{Room, fitting, Appended}
 use Rattle.output.specs.Says.{errors, Says}
-use borrow.Author.Rules.{rules}
-use Rattle.output.proofs.complaint.Statement.{statement}
-use Rattle.output.proofs.complaint.Tie as tie
+use Rattle.output.proofs.complaint.Goals as goal
 
 says : (words old new : List ℕ) (n : ℕ) → Appended words old 0 new n → Says errors (fitting words old 0) old new (record { stream = errors; length = n })
 says words old new n a = record {
@@ -24,14 +22,5 @@ says words old new n a = record {
     front : ◌≡◌ {A = ℕ} (0 + length (fitting words old 0)) (length (fitting words old 0))
     front = omega arith
 
-word-requires : tie.Need-word-requires
-word-requires c κs = search rules
-
-same_length : tie.Need-same-length
-same_length c = search rules
-
-returns : tie.Need-returns
-returns c = (says _ _ _ _ c.before.before.word.ensures.0, refl)
-
-pub complaint-spec : {M : Type 1} → statement M
-complaint-spec = tie.close (tie.spec word-requires same_length returns)
+pub returns-clause-said : goal.returns-clause-said
+returns-clause-said c = says _ _ _ _ c.word-length.ensures.appended
