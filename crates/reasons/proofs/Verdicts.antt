@@ -1,5 +1,4 @@
 -- What a match on the named question's verdict leaves for its last arm. Assumes nothing.
-use mathlib.Core.Path.{refl}
 use mathlib.Core.Logic.{◌≢◌}
 use Rattle.roster.specs.declared.Refusal.{Refusal}
 use Rattle.roster.specs.declared.Verdict.{Verdict}

@@ -1,11 +1,9 @@
 -- The walk is the unrolling of `listed` from its rank on, by the open ranks. Assumes nothing.
-use mathlib.Core.Path.{◌≡◌, refl, sym, ap, ◌∙◌, subst}
-use mathlib.Core.Logic.{◌≢◌, ⊎_elim}
+use mathlib.Core.Path.{◌≡◌, sym, ap, ◌∙◌, subst}
+use mathlib.Core.Logic.{◌≢◌}
 use mathlib.Core.List.{List}
 use Prim.Native.Nat.{ℕ, suc, ◌-◌, ◌≤◌, ◌<◌}
 use native.Mathlib.Omega.{arith}
-use borrow.Author.Rules.{rules}
-use lib.Count.{ones}
 use Rattle.roster.specs.declared.Table.{Table}
 use Rattle.sets.specs.Sets.{with, missing}
 use Rattle.sets.specs.Arrays.{at}

@@ -1,22 +1,14 @@
 -- The loop's invariant, for every table that what is lent is of: the ranks are open as `ranks` says, and what is to be answered is what the
 -- absences from there on come to at `units`. The measure of the recursion is how many rows are wanted, that of the loop how many ranks are open.
-use mathlib.Core.Path.{◌≡◌, refl, sym, ap, ◌∙◌, subst}
-use mathlib.Core.Logic.{◌≢◌, ⊎_elim}
+use mathlib.Core.Path.{◌≡◌}
 use mathlib.Core.List.{List}
-use Prim.Native.Nat.{ℕ, suc, ◌-◌, ◌≤◌, ◌<◌}
-use native.Mathlib.Omega.{arith}
-use borrow.Author.Rules.{rules}
+use Prim.Native.Nat.{ℕ, ◌≤◌}
 use lib.Count.{ones}
 use Rattle.roster.specs.declared.Table.{Table}
-use Rattle.sets.specs.Sets.{with, missing}
-use Rattle.sets.specs.Arrays.{at}
 use Rattle.absences.specs.declared.Search.{Search}
-use Rattle.absences.specs.declared.Course.TheVariants.{Open}
-use Rattle.absences.specs.declared.Walked.{Walked}
 use Rattle.absences.specs.Tried.{Way}
 use Rattle.absences.specs.Inner.Opens.{Opens}
 use Rattle.absences.specs.Inner.Walk.{Lent, Ranked, walked_by, onward}
-use Rattle.absences.proofs.Turns as turns
 use Rattle.absences.proofs.+walk.Given as goal
 
 -- what stays to be shown where these ranks are open, for every table

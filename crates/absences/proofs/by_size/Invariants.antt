@@ -1,18 +1,10 @@
 -- The loop's invariant, for every table that what is lent is of: what is to be answered is what the sizes from `size` on come to at `units`.
 -- Assumes nothing.
-use mathlib.Core.Path.{◌≡◌, sym, ap₂, ◌∙◌, subst}
-use mathlib.Core.List.{List}
-use mathlib.Core.Logic.{⊎_elim}
-use Prim.Native.Nat.{ℕ, ◌+◌, ◌-◌, ◌≤◌}
-use native.Mathlib.Omega.{arith}
-use borrow.Author.Rules.{rules}
+use mathlib.Core.Path.{◌≡◌}
+use Prim.Native.Nat.{◌+◌, ◌-◌, ◌≤◌}
 use Rattle.roster.specs.declared.Table.{Table}
-use Rattle.absences.specs.Inner.Opens.{Opens}
-use Rattle.absences.specs.Inner.Walk.{Lent, Ranked, walked_by, onward}
+use Rattle.absences.specs.Inner.Walk.{Lent, Ranked, walked_by}
 use Rattle.absences.specs.Tried.{Way, sizes_from, sizes_to}
-use Rattle.absences.specs.declared.Search.{Search}
-use Rattle.absences.specs.Laws.Open.{all_open}
-use Rattle.absences.proofs.Sizes.{sizes_end, size_none, size_stops}
 use Rattle.absences.proofs.by_size.Given as goal
 
 abbrev pub invariant-loop-size : goal.invariant-loop-size

@@ -1,8 +1,6 @@
 -- Nobody absent first, at what an absence costs; if that does not block, the sizes from 1 on at what it took. Assumes nothing.
 use mathlib.Core.Path.{◌≡◌, ◌∙◌}
-use mathlib.Core.Logic.{⊎_elim}
 use native.Mathlib.Omega.{arith}
-use borrow.Author.Rules.{rules}
 use Rattle.roster.specs.declared.Table.{Table}
 use Rattle.crews.specs.Filling.{filling}
 use Rattle.crews.specs.Filled.{filled_of}

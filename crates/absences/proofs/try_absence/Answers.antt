@@ -2,12 +2,9 @@
 use mathlib.Core.Path.{◌≡◌, refl, ◌∙◌}
 use Prim.Native.Nat.{◌+◌}
 use native.Mathlib.Omega.{arith}
-use borrow.Author.Rules.{rules}
-use Rattle.roster.specs.declared.Table.{Table}
 use Rattle.crews.specs.Filling.{filling}
 use Rattle.crews.specs.Filled.{filled_of}
 use Rattle.absences.specs.Tried.{per_absence}
-use Rattle.absences.specs.Inner.Walk.{Lent}
 use Rattle.absences.proofs.Absent.{answered, absent_told, absent_spent}
 use Rattle.absences.proofs.try_absence.Goals as goal
 

@@ -1,6 +1,6 @@
 -- A placement is one call of `go_on`: stuck, or on to `try_each`, by the laws of a placement in Turns. In `try_each` the return before the
 -- loop is `search-done`, and each turn ends by a law of Turns. Assumes nothing.
-use mathlib.Core.Path.{◌≡◌, refl, sym, ap, ◌∙◌}
+use mathlib.Core.Path.{refl, sym, ap, ◌∙◌}
 use mathlib.Core.List.{List}
 use Prim.Native.Nat.{ℕ}
 use native.Mathlib.Omega.{arith}

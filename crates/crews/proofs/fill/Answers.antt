@@ -1,11 +1,9 @@
 -- An allowance overspent is undecided whatever the outcome; for no permission and past the limit nothing is looked for, and crews of no rows
 -- are full at once; else the search begins, with a crew that lacks the whole task. Assumes nothing.
 use mathlib.Core.Path.{refl, sym, ap, ◌∙◌}
-use mathlib.Core.Logic.{⊎_elim}
 use Prim.Native.Nat.{◌≤◌}
 use native.Mathlib.Omega.{arith}
 use lib.Count.{ones}
-use borrow.Author.Rules.{rules}
 use Rattle.sets.specs.Sets.{ones_none}
 use Rattle.crews.specs.declared.Filling.{Filling}
 use Rattle.crews.specs.Filling.{begin, orderly}

@@ -1,14 +1,12 @@
 -- After each row the set is that of the rows so far that hold the permission. Assumes nothing.
 use mathlib.Core.Path.{◌≡◌, sym, ap, ◌∙◌}
-use mathlib.Core.Logic.{◌≢◌, ⊎_elim}
-use mathlib.Core.Bool.{Bool}
+use mathlib.Core.Logic.{◌≢◌}
 use mathlib.Core.List.{List}
-use Prim.Native.Nat.{ℕ, ◌+◌, ◌-◌, ◌*◌, ◌/◌, ◌%◌, ◌^◌, ◌≤◌, ◌<◌}
+use Prim.Native.Nat.{ℕ, ◌+◌, ◌*◌, ◌/◌, ◌%◌, ◌^◌, ◌<◌}
 use native.Mathlib.Omega.{arith}
-use borrow.Author.Rules.{rules}
 use lib.Bits.{bit_and, bit_or}
 use Rattle.sets.specs.Sets.{bit, bit_le, shr_and_one}
-use Rattle.sets.specs.Members.{hasb, set_of}
+use Rattle.sets.specs.Members.{set_of}
 use Rattle.sets.specs.Laws.Tests.{has_hasb, out_hasb}
 use Rattle.sets.specs.Laws.Build.{set_of-none, set_of_added, set_of_passed}
 use Rattle.sets.specs.Arrays.{at}

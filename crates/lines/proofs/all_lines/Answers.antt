@@ -9,7 +9,7 @@ use Rattle.accounts.specs.declared.People.{People}
 use Rattle.accounts.specs.Persons.{people_of}
 use Rattle.book.specs.Parts.{accounts_in, policy_count_of, policy_at}
 use Rattle.lines.specs.Sheet.{numbers_in, line_by, lines_from}
-use Rattle.text.specs.Laws.Appends.{SoFar, begin, step, with_rest, finish, same, read_as}
+use Rattle.text.specs.Laws.Appends.{step, with_rest, finish, read_as}
 use Rattle.lines.proofs.all_lines.Goals as goal
 use Rattle.lines.proofs.all_lines.Goals.{After-policy_count-count}
 

@@ -1,15 +1,7 @@
 -- The loop writes one policy's line after the other. Its measure is how many are left. Assumes nothing.
-use mathlib.Core.Path.{◌≡◌, sym, ap, ◌∙◌}
-use mathlib.Core.List.{List, [], ◌++◌}
-use Prim.Native.Nat.{ℕ, suc, ◌-◌, ◌≤◌, ◌<◌}
-use native.Mathlib.Numerals.{add-one}
-use native.Mathlib.Omega.{arith}
-use Rattle.accounts.specs.declared.Accounts.{Accounts}
-use Rattle.accounts.specs.declared.People.{People}
-use Rattle.accounts.specs.Persons.{people_of}
-use Rattle.book.specs.Parts.{accounts_in, policy_count_of, policy_at}
-use Rattle.lines.specs.Sheet.{numbers_in, line_by, lines_from}
-use Rattle.text.specs.Laws.Appends.{SoFar, begin, step, with_rest, finish, same, read_as}
+use Prim.Native.Nat.{◌-◌, ◌≤◌}
+use Rattle.lines.specs.Sheet.{lines_from}
+use Rattle.text.specs.Laws.Appends.{SoFar}
 use Rattle.lines.proofs.all_lines.Given as goal
 
 abbrev pub invariant-loop-index : goal.invariant-loop-index

@@ -1,18 +1,8 @@
 -- What is replied is the one reply that is allowed (`policy_asked_same`), and it has eight crews. Assumes nothing.
-use mathlib.Core.Path.{◌≡◌, refl, ap, ◌∙◌}
+use mathlib.Core.Path.{◌≡◌, ap}
 use Prim.Native.Nat.{ℕ, ◌^◌, ◌<◌}
-use lib.ListN.{length}
-use Rattle.roster.specs.Limits.{crew_limit}
-use Rattle.roster.specs.declared.Table.{Table}
 use Rattle.roster.specs.declared.Reply.{Reply}
-use Rattle.roster.specs.declared.Ruling.{Ruling}
-use Rattle.roster.specs.declared.Ruling.TheVariants as ruling
-use Rattle.crews.specs.Laws.Exact.{crews-eight}
-use Rattle.absences.specs.Asked.{need_policy, PolicyReply}
-use Rattle.absences.specs.Laws.Decided.{Case, is_refused_lem, is_undecided, is_yes, is_no, policy_case}
 use Rattle.accounts.specs.declared.Accounts.{Accounts}
-use Rattle.accounts.specs.Persons.{merged}
-use Rattle.accounts.specs.Refusals.{accounts_ruling}
 use Rattle.questions.specs.Asked.{PolicyAsked}
 use Rattle.questions.specs.Replied.{policy_answer_of}
 use Rattle.questions.specs.Laws.Replies.{policy_answered, policy_asked_same}

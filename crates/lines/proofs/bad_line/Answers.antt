@@ -5,7 +5,6 @@ use Prim.Native.Nat.{ℕ}
 use Rattle.text.specs.Text.{quoted, space, newline, decimal, marked, joined}
 use Rattle.text.specs.Laws.Appends.{◌then◌, read_as}
 use Rattle.lines.specs.Lines.{bad_line}
-use borrow.Author.Rules.{rules}
 use Rattle.lines.proofs.bad_line.Goals as goal
 
 parts : (fault place : ℕ) → quoted "bad" ++ (space ∷ decimal fault) ++ (space ∷ decimal place) ++ (newline ∷ []) ≡ bad_line fault place

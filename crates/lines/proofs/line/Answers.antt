@@ -6,7 +6,6 @@ use Rattle.roster.specs.declared.Reply.{Reply}
 use Rattle.text.specs.Text.{space, newline, decimal, marked, joined}
 use Rattle.text.specs.Laws.Appends.{◌then◌, read_as}
 use Rattle.lines.specs.Lines.{verdict_word, sets_text, line_of}
-use borrow.Author.Rules.{rules}
 use Rattle.lines.proofs.line.Goals as goal
 
 parts : (numbers : List ℕ) (index : ℕ) (reply : Reply)

@@ -10,7 +10,6 @@ use Rattle.book.specs.declared.Listed.TheVariants as listed
 use Rattle.lines.specs.Lines.{line_of}
 use Rattle.lines.specs.Sheet.{answer_to, numbers_in, reply_to, line_by}
 use Rattle.text.specs.Laws.Appends.{none, read_as}
-use borrow.Author.Rules.{rules}
 use Rattle.lines.proofs.policy_line.Goals as goal
 
 there : (book : List ℕ) (index : ℕ) (numbers : List ℕ) (accounts : Accounts) (p : Policy) (l : Listed) → numbers ≡ numbers_in book → accounts ≡ accounts_in book

@@ -22,7 +22,6 @@ use Rattle.lines.specs.Lines.{bad_line}
 use Rattle.lines.specs.Sheet.{lines_from, sheet_by, sheet_of, longest, Promised}
 use Rattle.lines.specs.Laws.Fits.{sheet_fits}
 use Rattle.text.specs.Laws.Appends.{read_as, all_stand, all_past}
-use borrow.Author.Rules.{rules}
 use Rattle.lines.proofs.sheet.Goals as goal
 
 module _ (book old : List ℕ) (bytes : Bytes book) (long : longest ≤ length old) where

@@ -3,7 +3,6 @@ use mathlib.Core.Path.{sym, ap}
 use Rattle.text.specs.Laws.Appends.{none, read_as}
 use Rattle.lines.specs.Lines.{verdict_word}
 use Rattle.lines.proofs.Verdicts.{no_word}
-use borrow.Author.Rules.{rules}
 use Rattle.lines.proofs.verdict_word.Goals as goal
 
 pub returns-in-Yes : goal.returns-in-Yes

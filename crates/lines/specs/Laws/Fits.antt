@@ -1,7 +1,7 @@
 -- No sheet is longer than `longest`: at most 32 lines, each of at most 726 bytes, since a line names each person at most once. Assumes nothing.
 use Rattle.std.specs.Prelude.{◌≡◌, refl, Bool, ltb, get_or, take}
 use Rattle.std.proofs.Common.{sym, ap, subst, ◌∙◌, ⊎_elim, lt_of_lt_of_le, length-take, pow_mono, get_or-take}
-use mathlib.Core.List.{List, [], ◌∷◌, ◌++◌, map}
+use mathlib.Core.List.{List, [], ◌∷◌, map}
 use Rattle.std.proofs.Math.Bool.{true, false}
 use Prim.Native.Nat.{ℕ, zero, suc, ◌+◌, ◌-◌, ◌*◌, ◌^◌, ◌≤◌, ◌<◌}
 use native.Mathlib.Omega.{arith}
@@ -39,7 +39,7 @@ use Rattle.questions.specs.Replied.{behind, policy_answer_of}
 use Rattle.book.specs.Layout.{form_has_persons}
 use Rattle.book.specs.Faults.{fault_number}
 use Rattle.book.specs.Promises.{Bytes}
-use Rattle.book.specs.Reading.{fields_at, rows, policies_of, entry_at, past, form_of, starts_of, read_of}
+use Rattle.book.specs.Reading.{fields_at, rows, policies_of, entry_at, form_of, starts_of, read_of}
 use Rattle.book.specs.Parts.{starts_in, row_place, row_from, row_by_number, row_or0, accounts_in, contents_of, policy_count_of, listed_by, policy_from, policy_place, policy_at}
 use Rattle.book.specs.Laws.Codec.{number_fits}
 use Rattle.book.specs.Laws.Books.{reply, good_layout}

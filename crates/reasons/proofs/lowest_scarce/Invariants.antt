@@ -1,14 +1,10 @@
 -- No permission passed is scarce. Assumes nothing.
-use mathlib.Core.Path.{◌≡◌, sym, ◌∙◌}
+use mathlib.Core.Path.{◌≡◌}
 use mathlib.Core.Bool.{Bool, false}
 use mathlib.Core.List.{List}
 use Prim.Native.Nat.{ℕ, ◌-◌, ◌≤◌, ◌<◌}
-use native.Mathlib.Omega.{arith}
-use borrow.Author.Rules.{rules}
-use borrow.Author.Count.{below_more}
 use lib.Bits.{bit_and}
 use Rattle.sets.specs.Arrays.{at}
-use Rattle.accounts.specs.Laws.First.{first_is}
 use Rattle.reasons.specs.Replied.{scarce_in}
 use Rattle.reasons.proofs.lowest_scarce.Given as goal
 

@@ -4,7 +4,6 @@ use mathlib.Core.Bool.{Bool, false, ◌&&◌}
 use mathlib.Core.Logic.{◌≢◌}
 use Prim.Native.Nat.{ℕ, ◌/◌, ◌^◌}
 use native.Mathlib.Omega.{arith}
-use borrow.Author.Rules.{rules}
 use lib.Bits.{bit_and}
 use lib.Count.{ones}
 use lib.Dec.{ltb}

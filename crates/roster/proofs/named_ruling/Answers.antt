@@ -3,7 +3,6 @@ use mathlib.Core.Path.{◌≡◌, sym, ap, ◌∙◌}
 use mathlib.Core.Bool.{Bool}
 use Prim.Native.Nat.{ℕ, ◌^◌}
 use lib.Dec.{leb}
-use borrow.Author.Rules.{rules}
 use Rattle.roster.specs.declared.Refusal.TheVariants.{Absence}
 use Rattle.roster.specs.declared.Ruling.TheVariants.{Admitted}
 use Rattle.roster.specs.Refusals.{refused_if, policy_ruling, named_ruling}

@@ -4,7 +4,6 @@ use Prim.Native.Nat.{◌≤◌}
 use native.Mathlib.Nat.{lt_of_lt_of_le}
 use native.Mathlib.Omega.{arith}
 use lib.Pow.{pow_mono}
-use borrow.Author.Rules.{rules}
 use borrow.Author.Tests.{lt-leb}
 use Rattle.sets.specs.Laws.Tests.{shifted}
 use Rattle.roster.proofs.past_rows.Goals as goal

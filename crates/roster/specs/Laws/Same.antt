@@ -1,7 +1,7 @@
 -- "Holdings outside P play no part", and "holdings past the count play no part": where two tables have as many rows, and each row holds the same
 -- within P, every definition of Meaning says the same of both. Each is shown from one table to the other; `agree_sym` turns it round.
 -- Assumes nothing.
-use Rattle.std.specs.Prelude.{◌≡◌, ◌⊎◌, ◌≢◌, ◌↔◌, ◌&&◌, ◌||◌, List, ℕ, ◌^◌, ◌≤◌, ◌<◌, min, get_or, eqb, ltb}
+use Rattle.std.specs.Prelude.{◌≡◌, ◌⊎◌, ◌↔◌, ◌&&◌, ◌||◌, List, ℕ, ◌^◌, ◌<◌, min, get_or, eqb, ltb}
 use Rattle.std.proofs.Common.{sym, ap, ap₂, ◌∙◌, subst, inl, inr, arith}
 use Rattle.std.proofs.Math.Decide.{dec_lt}
 use Rattle.std.specs.Int.Count.{ones}

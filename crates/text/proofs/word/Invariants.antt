@@ -1,12 +1,7 @@
 -- The loop's invariant: the first i bytes of the word are appended. Assumes nothing.
-use mathlib.Core.Path.{refl, sym, ap, ◌∙◌}
-use Prim.Native.Nat.{ℕ, ◌-◌, ◌≤◌}
-use native.Mathlib.Numerals.{add-one}
-use native.Mathlib.Omega.{arith}
+use Prim.Native.Nat.{◌-◌, ◌≤◌}
 use lib.ListN.{length, take}
-use lib.Seq.{take-suc, take_all}
 use Rattle.text.specs.Text.{Appended}
-use Rattle.text.specs.Laws.Appends.{◌then◌, none, same, read_as}
 use Rattle.text.proofs.word.Given as goal
 
 abbrev pub invariant-loop-i : goal.invariant-loop-i

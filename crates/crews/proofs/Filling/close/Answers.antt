@@ -1,6 +1,5 @@
 -- The fields are the definition's. Assumes nothing.
 use mathlib.Core.Path.{refl}
-use borrow.Author.Rules.{rules}
 use Rattle.crews.specs.Filling.{close_of}
 use Rattle.crews.proofs.Filling.close.Goals as goal
 

@@ -4,7 +4,6 @@ use native.Mathlib.Omega.{arith}
 use lib.Count.{ones}
 use lib.Dec.{leb}
 use borrow.Author.Tests.{le-leb}
-use borrow.Author.Rules.{rules}
 use Rattle.crews.specs.Laws.Steps.{closes_lacks, closes_whole}
 use Rattle.crews.proofs.Filling.closes.Goals as goal
 

@@ -1,7 +1,6 @@
 -- By whether the crew is just begun. Assumes nothing.
 use mathlib.Core.Path.{sym, ap, ◌∙◌}
 use Prim.Native.Nat.{ℕ}
-use borrow.Author.Rules.{rules}
 use Rattle.sets.specs.Sets.{minus}
 use Rattle.roster.specs.Limits.{row_limit}
 use Rattle.crews.specs.Laws.Steps.{eligible_first, eligible_next}

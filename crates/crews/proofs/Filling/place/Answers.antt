@@ -1,8 +1,6 @@
 -- The fields are the definition's, `1 << row` being 2 ^ row; from which row on the next crew may begin, by whether the row is the first.
 -- Assumes nothing.
 use mathlib.Core.Path.{◌≡◌, refl, sym, ◌∙◌}
-use mathlib.Core.Logic.{⊎_elim}
-use borrow.Author.Rules.{rules}
 use Rattle.sets.specs.Sets.{shl_one}
 use Rattle.crews.specs.Filling.{place_of}
 use Rattle.crews.specs.Laws.Search.{from_first, from_next}

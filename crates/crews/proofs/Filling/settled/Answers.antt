@@ -1,7 +1,6 @@
 -- By whether the crew can be closed. Assumes nothing.
 use mathlib.Core.Path.{sym, ap, ◌∙◌}
 use native.Mathlib.Omega.{arith}
-use borrow.Author.Rules.{rules}
 use Rattle.crews.specs.declared.Filling.{Filling}
 use Rattle.crews.specs.Filling.{close_of}
 use Rattle.crews.specs.Laws.Steps.{shut, short}

@@ -1,7 +1,6 @@
 -- By whether the crew can be closed. Assumes nothing.
 use mathlib.Core.Path.{sym, ap, ◌∙◌}
 use lib.Dec.{leb}
-use borrow.Author.Rules.{rules}
 use Rattle.crews.specs.Laws.Steps.{covering, lacking}
 use Rattle.crews.proofs.Filling.stuck.Goals as goal
 

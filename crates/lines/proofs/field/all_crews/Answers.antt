@@ -9,7 +9,6 @@ use Rattle.text.specs.Text.{space, dash, marked, joined}
 use Rattle.lines.specs.Lines.{set_text, filled, between_crews, crews_text}
 use Rattle.text.specs.Laws.Appends.{read_as}
 use Rattle.lines.proofs.Walk.{mark-joined}
-use borrow.Author.Rules.{rules}
 use Rattle.lines.proofs.field.all_crews.Goals as goal
 
 none : (numbers sets : List ℕ) → length sets ≡ 0 → space ∷ crews_text numbers sets ≡ space ∷ dash ∷ []

@@ -1,14 +1,12 @@
 -- The loop writes one crew after its mark and stops at the first that is empty. Its measure is how many sets are left. Assumes nothing.
 use mathlib.Core.Path.{◌≡◌, sym, ap}
-use mathlib.Core.List.{◌++◌, map}
-use Prim.Native.Nat.{suc, ◌-◌}
+use mathlib.Core.List.{◌++◌}
+use Prim.Native.Nat.{suc}
 use native.Mathlib.Numerals.{add-one}
-use native.Mathlib.Omega.{arith}
-use borrow.Author.Rules.{rules}
-use lib.ListN.{length, get_or}
+use lib.ListN.{get_or}
 use Rattle.text.specs.Text.{marked}
-use Rattle.lines.specs.Lines.{names, between_members, set_text, filled, between_crews}
-use Rattle.text.specs.Laws.Appends.{SoFar, begin, step, with_rest, finish, same}
+use Rattle.lines.specs.Lines.{names, between_members, between_crews}
+use Rattle.text.specs.Laws.Appends.{step, with_rest, finish}
 use Rattle.lines.proofs.Walk.{crews_from, crew_next, crew_stop, crew_last}
 use Rattle.lines.proofs.field.crews.Goals as goal
 use Rattle.lines.proofs.field.crews.Goals.{After-shared_slice_known-in-loop-j-2-1}

@@ -9,7 +9,7 @@ use lib.ListN.{get_or}
 use Rattle.sets.specs.Sets.{Least, trailing_least, drop_lt, ones-drop}
 use Rattle.text.specs.Text.{decimal, marked}
 use Rattle.lines.specs.Lines.{names, between_members}
-use Rattle.text.specs.Laws.Appends.{SoFar, begin, step, with_rest, finish, same}
+use Rattle.text.specs.Laws.Appends.{SoFar, step, with_rest, finish}
 use Rattle.lines.proofs.Walk.{member_next, member_last}
 use Rattle.lines.proofs.field.members.Goals as goal
 use Rattle.lines.proofs.field.members.Goals.{After-least-row}

@@ -1,16 +1,9 @@
 -- The loop takes the least member out of what is left and writes it after its mark. Its measure is how many members are left. Assumes nothing.
-use mathlib.Core.Path.{◌≡◌, sym, ap, subst, ◌∙◌}
-use mathlib.Core.List.{◌∷◌, ◌++◌}
-use Prim.Native.Nat.{ℕ, ◌^◌, ◌<◌}
-use native.Mathlib.Omega.{arith}
-use lib.Bits.{bit_xor}
+use Prim.Native.Nat.{◌^◌, ◌<◌}
 use lib.Count.{ones}
-use lib.ListN.{get_or}
-use Rattle.sets.specs.Sets.{Least, trailing_least, drop_lt, ones-drop}
-use Rattle.text.specs.Text.{decimal, marked}
+use Rattle.text.specs.Text.{marked}
 use Rattle.lines.specs.Lines.{names, between_members}
-use Rattle.text.specs.Laws.Appends.{SoFar, begin, step, with_rest, finish, same}
-use Rattle.lines.proofs.Walk.{member_next, member_last}
+use Rattle.text.specs.Laws.Appends.{SoFar}
 use Rattle.lines.proofs.field.members.Given as goal
 
 abbrev pub invariant-loop-left : goal.invariant-loop-left

@@ -7,7 +7,6 @@ use Rattle.text.specs.Text.{space, dash, marked, joined}
 use Rattle.lines.specs.Lines.{names, between_members, set_text}
 use Rattle.text.specs.Laws.Appends.{read_as}
 use Rattle.lines.proofs.Walk.{names-none, some_names, mark-joined}
-use borrow.Author.Rules.{rules}
 use Rattle.lines.proofs.field.one_set.Goals as goal
 
 empty : (numbers : List ℕ) (set : ℕ) → set ≡ 0 → space ∷ set_text numbers set ≡ space ∷ dash ∷ []

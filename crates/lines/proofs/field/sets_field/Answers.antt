@@ -7,7 +7,6 @@ use Rattle.text.specs.Text.{space}
 use Rattle.lines.specs.Lines.{sets_text}
 use Rattle.text.specs.Laws.Appends.{read_as}
 use Rattle.lines.proofs.Verdicts.{no_sets}
-use borrow.Author.Rules.{rules}
 use Rattle.lines.proofs.field.sets_field.Goals as goal
 use Rattle.lines.proofs.field.sets_field.Goals.{Start}
 
