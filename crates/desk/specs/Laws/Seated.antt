@@ -3,7 +3,7 @@
 use Rattle.std.specs.Prelude.{◌≡◌, refl, true, false, ◌⊎◌, eqb, get_or}
 use Rattle.std.proofs.Common.{sym, ◌∙◌, inl, inr, ⊎_elim, eqb-true}
 use Rattle.std.proofs.Math.Path.{ap, ap₂, fun_ext}
-use Rattle.std.proofs.Math.Option.{Option, some, none}
+use Rattle.std.proofs.Math.Option.{some, none}
 use mathlib.Core.List.Memᴰ
 use mathlib.Core.List.{List, [], ◌∷◌, map, Memᴰ}
 use Prim.Native.Nat.{ℕ, zero, suc, ◌+◌, ◌-◌, ◌/◌, ◌^◌, ◌≤◌, ◌<◌, min}
