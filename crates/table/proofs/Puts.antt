@@ -2,7 +2,6 @@
 use Rattle.std.proofs.Common.{◌≡◌, ℕ, suc, ◌+◌, ◌-◌, ◌/◌, ◌%◌, ◌<◌, ◌≤◌, Bool, true, false, List, [], ◌∷◌, ◌++◌, map, length, sym, refl, ap, ◌∙◌, ap₂, append_assoc, append-nil, arith}
 use mathlib.Core.Path.{fun_ext}
 use Rattle.sets.specs.Arrays.{tabulate}
-use Rattle.sets.specs.Mask.{bit}
 use Rattle.sets.specs.Laws.Arrays.{length-tabulate}
 use Rattle.sets.specs.Laws.Digits.{bit-zero, bit-suc}
 use Rattle.roster.specs.declared.Policy.{Policy}

@@ -1,6 +1,7 @@
 // The book as a table that a spreadsheet opens and saves. specs/Table says which text a book's values have and specs/Shown what is shown of a book;
 // specs/Understood says as which text any table is understood, and specs/Making what is made of it.
 #![tactic(auto)]
+
 mod cells;
 mod draft;
 mod fit;

@@ -136,6 +136,18 @@ word_same No Undecided says_no says_undecided e = absurd (omega (arith, ap lengt
 word_same Undecided Yes says_undecided says_yes e = absurd (omega (arith, ap length e))
 word_same Undecided No says_undecided says_no e = absurd (omega (arith, ap length e))
 word_same Undecided Undecided says_undecided says_undecided e = refl
+word_same Yes Crews a b e = elim b [ ]
+word_same Yes None a b e = elim b [ ]
+word_same Yes (Refused _) a b e = elim b [ ]
+word_same No Crews a b e = elim b [ ]
+word_same No None a b e = elim b [ ]
+word_same No (Refused _) a b e = elim b [ ]
+word_same Undecided Crews a b e = elim b [ ]
+word_same Undecided None a b e = elim b [ ]
+word_same Undecided (Refused _) a b e = elim b [ ]
+word_same Crews w a b e = elim a [ ]
+word_same None w a b e = elim a [ ]
+word_same (Refused _) w a b e = elim a [ ]
 
 pub word_parted : (v w : Verdict) (x y : List ℕ) → Worded v → Worded w → verdict_word v ␣ x ≡ verdict_word w ␣ y → (v ≡ w) × (x ≡ y)
 word_parted v w x y a b e =

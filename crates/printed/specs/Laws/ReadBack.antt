@@ -5,7 +5,7 @@ use Rattle.std.proofs.Common.{ap, ◌∙◌}
 use Rattle.std.proofs.lemmas.List.{append_cancel_right}
 use Rattle.roster.specs.Limits.{row_limit}
 use Rattle.roster.specs.declared.Verdict.{Verdict}
-use Rattle.roster.specs.declared.Verdict.TheVariants.{Yes, No, Undecided}
+use Rattle.roster.specs.declared.Verdict.TheVariants.{Yes, No, Undecided, Crews, None, Refused}
 use Rattle.roster.specs.declared.Reply.{Reply}
 use Rattle.accounts.specs.Persons.{persons}
 use Rattle.accounts.specs.Laws.Merged.{persons_few}
@@ -43,6 +43,9 @@ module _ (n : ℕ) (few : n ≤ row_limit) (numbers : List ℕ) (different : Dif
   )
   sets_same Undecided says_undecided e f s =
       (crewless (λ c. never (cc)) (λ c. never (cc)), unblocked (λ c. never (cc)) (λ c. never (cc)))
+  sets_same Crews w e f s = elim w [ ]
+  sets_same None w e f s = elim w [ ]
+  sets_same (Refused _) w e f s = elim w [ ]
 
   -- replies with the same line over the same names are the same reply, and have the same index
   pub shown_same : (i j : ℕ) → line_of numbers i r ≡ line_of numbers j q → (i ≡ j) × (r ≡ q)

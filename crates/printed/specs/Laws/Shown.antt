@@ -8,7 +8,7 @@ use Rattle.roster.specs.Replies.{no_crews, Eight}
 use Rattle.roster.specs.Meaning.{CrewList}
 use Rattle.roster.specs.declared.Table.{Table}
 use Rattle.roster.specs.declared.Verdict.{Verdict}
-use Rattle.roster.specs.declared.Verdict.TheVariants.{Yes, No, Undecided}
+use Rattle.roster.specs.declared.Verdict.TheVariants.{Yes, No, Undecided, Crews, None, Refused}
 use Rattle.roster.specs.declared.Reply.{Reply}
 use Rattle.crews.specs.Laws.Sound.{none-at}
 use Rattle.absences.specs.Tried.{Way}
@@ -91,11 +91,17 @@ module _ (way : Way) (table : Table) (P s d t ed : ℕ) (wide : P < 2 ^ 32) (all
   )
   crews-shown No says_no q = none (λ c. never (cc))
   crews-shown Undecided says_undecided q = none (λ c. never (cc))
+  crews-shown Crews w q = elim w [ ]
+  crews-shown None w q = elim w [ ]
+  crews-shown (Refused _) w q = elim w [ ]
 
   blocker_shown : (v : Verdict) → Worded v → r.verdict ≡ v → r.blocker < 2 ^ table.rows
   blocker_shown Yes says_yes q = omega (arith, tells.no_blocker (λ c. never (cc)), pow_pos table.rows)
   blocker_shown No says_no q = (tells.blocker q).rows
   blocker_shown Undecided says_undecided q = omega (arith, tells.no_blocker (λ c. never (cc)), pow_pos table.rows)
+  blocker_shown Crews w q = elim w [ ]
+  blocker_shown None w q = elim w [ ]
+  blocker_shown (Refused _) w q = elim w [ ]
 
   -- over n rows, of which the table has no more
   pub allowed_shown : (n : ℕ) → table.rows ≤ n → Shown n r

@@ -1,5 +1,5 @@
 -- What the functions that fit lines to their headings answer. Nothing here is proved: these are definitions.
-use Rattle.std.specs.Prelude.{◌≡◌, ℕ, ◌+◌, ◌-◌, ◌<◌, ◌≤◌, Bool, true, false, List, [], ◌∷◌, ◌++◌, length, take, drop}
+use Rattle.std.specs.Prelude.{◌≡◌, ℕ, ◌-◌, ◌<◌, ◌≤◌, Bool, true, false, List, [], ◌∷◌, ◌++◌, length, take, drop}
 use Rattle.text.specs.Text.{comma, joined, marked, Appended}
 use Rattle.text.specs.Cut.{ended}
 use Rattle.table.specs.Understood.{cut, parts}

@@ -22,7 +22,7 @@ use Rattle.book.specs.declared.Form.{Form}
 use Rattle.book.specs.declared.Form.TheVariants.{Old, Persons, Editions}
 use Rattle.book.specs.declared.Row.{Row}
 use Rattle.text.specs.Text.{quoted, newline, comma, dash, digit, decimal, joined, marked}
-use Rattle.text.specs.Cut.{Every, Lacks, lines_of, ended}
+use Rattle.text.specs.Cut.{Every, Lacks, lines_of}
 use Rattle.text.specs.Laws.Decimal.{decimal-small, decimal_large}
 use Rattle.text.specs.Laws.Every.{every_none, every_cons, every_first, every_rest, every_map, map_same}
 use Rattle.text.specs.Laws.Marks.{over, lacks_over, lacks_none, lines_ended, joined_same, joined_lacks}

@@ -1,0 +1,8 @@
+-- The words and the codes one after the other are the heading. Assumes nothing.
+use Rattle.text.specs.Laws.Appends.{◌then◌, read_as}
+use Rattle.table.proofs.Puts.{policy_heading_lem}
+use Rattle.table.proofs.put.put_policy_heading.Goals as goal
+
+pub returns : goal.returns
+returns c = let a = c.args in
+    read_as (policy_heading_lem a.editions a.contents) (c.word-called.ensures.appended then (c.put_word-named.ensures then (c.put_codes-coded.ensures then c.put.ensures)))
