@@ -17,12 +17,12 @@ use Rattle.crews.specs.declared.Filled.{Filled}
 use Rattle.crews.specs.Filling.{Outcome, orderly, holders_of, filling}
 use Rattle.sets.specs.Arrays.{tabulate, at}
 use Rattle.crews.specs.Filled.{filled_of, found_from}
-use Rattle.crews.specs.Laws.Arrays.{lent_filling}
-use Rattle.crews.specs.Laws.Steps as steps
+use Rattle.crews.proofs.Laws.Arrays.{lent_filling}
+use Rattle.crews.proofs.Laws.Steps as steps
 use Rattle.absences.specs.declared.Search.{Search}
 use Rattle.absences.specs.Tried.{Found, per_absence, units_of, weighed}
 use Rattle.absences.specs.Inner.Walk.{Lent, course_of, walked_from, walked_of}
-use Rattle.absences.specs.Laws.Weighed.{weighed-fits, weighed_blocks, weighed-none, dearer}
+use Rattle.absences.proofs.Laws.Weighed.{weighed-fits, weighed_blocks, weighed-none, dearer}
 use Rattle.absences.proofs.Spent.{undecided_at, walked_fits, walked_over}
 
 -- filling from what is lent is 01's filling with A absent

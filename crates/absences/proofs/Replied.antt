@@ -18,7 +18,7 @@ use Rattle.crews.specs.declared.Ending.{Ending}
 use Rattle.crews.specs.declared.Filled.{Filled}
 use Rattle.crews.specs.Filling.{filling}
 use Rattle.crews.specs.Filled.{filled_of}
-use Rattle.crews.specs.Laws.Steps as steps
+use Rattle.crews.proofs.Laws.Steps as steps
 use Rattle.absences.specs.declared.Search.{Search}
 use Rattle.absences.specs.declared.Course.{Course}
 use Rattle.absences.specs.declared.Course.TheVariants.{Open, Blocked, Undecided}
@@ -27,8 +27,8 @@ use Rattle.absences.specs.Tried.{Way, sizes_to, Found, per_absence, weighed}
 use Rattle.absences.specs.Asked.{found}
 use Rattle.absences.specs.Replied.{replied_by, policy_reply_of}
 use Rattle.absences.specs.Inner.Walk.{course_of, walked_from, walked_of, walked_by, reply_from, searched_by}
-use Rattle.absences.specs.Laws.Weighed.{and_then, weighed-append}
-use Rattle.absences.specs.Laws.Decided.{verdict_late, verdict_within}
+use Rattle.absences.proofs.Laws.Weighed.{and_then, weighed-append}
+use Rattle.absences.proofs.Laws.Decided.{verdict_late, verdict_within}
 use Rattle.absences.proofs.Absent.{absent_told}
 use Rattle.absences.proofs.Spent.{Judged, is_open, is_blocked, is_over, judge, walked_fits, walked_over, open_undecided, turn_open, turn_stopped}
 

@@ -13,7 +13,7 @@ use Rattle.absences.specs.declared.Course.TheVariants.{Open, Blocked, Undecided}
 use Rattle.absences.specs.declared.Walked.{Walked}
 use Rattle.absences.specs.Tried.{Found}
 use Rattle.absences.specs.Inner.Walk.{course_of, walked_of}
-use Rattle.absences.specs.Laws.Weighed.{and_then, dearer}
+use Rattle.absences.proofs.Laws.Weighed.{and_then, dearer}
 
 abbrev pub undecided_at : ℕ → Walked
 undecided_at n = record { course = Undecided; blocker = 0; units = n }

@@ -6,6 +6,5 @@ pub mod Replied
 pub mod Examples
 pub mod More
 -- that the definitions mean what 01 says, and the demands
-pub mod Laws
 -- definitions that only laws and proofs speak of, and what the private functions are held to
 pub mod Inner

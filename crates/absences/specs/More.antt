@@ -15,7 +15,7 @@ use Rattle.crews.specs.Filling.{place_of, close_of, closes_of, placed_of, pool_o
 use Rattle.absences.specs.Tried.{row_from, Way, full, skipping, joins, listed, sizes_from, weighed}
 use Rattle.absences.specs.Asked.{found_before}
 use Rattle.absences.specs.Replied.{policy_reply_of}
-use Rattle.absences.specs.Examples.{policy, named, Example, table_of, set_of_rows, yes_with, no_with, crews-with, none-with, undecided_with, refused_with_lem, ample, H, AllAllowed, all_allowed}
+use Rattle.absences.specs.Examples.{policy, named, Example, table_of, set_of_rows, yes_with, no_with, crews-with, none-with, undecided_with, refused_with_lem, ample, H}
 
 -- ---- the tables
 
@@ -193,11 +193,6 @@ by_first =
 
 abbrev pub more : List Example
 more = by_both skipping ++ by_both full ++ by_second skipping ++ by_second full ++ by_skipping ++ by_full ++ by_name ++ by_one ++ by_first
-
--- each reply of the table is the one allowed
-pub more_hold : AllAllowed more
-unfolding bit sum_to to_n cons? members filter hasb set_of ones ones_in count_trailing_zeros ahead rank outweighsb least_members place_of close_of closes_of placed_of pool_of candidates try_each search row_from joins listed sizes_from weighed policy_ruling named_ruling policy_reply_of
-more_hold = all_allowed more refl refl
 
 -- ---- the rule of filling before
 

@@ -3,3 +3,4 @@ pub mod Looks
 pub mod Fields
 pub mod Places
 pub mod Walks
+pub mod Laws

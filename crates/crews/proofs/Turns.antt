@@ -10,11 +10,12 @@ use native.Mathlib.Omega.{arith}
 use lib.Bits.{bit_xor}
 use lib.Count.{ones, count_trailing_zeros}
 use borrow.Author.Tests.{leb-true, leb-false}
-use Rattle.sets.specs.Sets.{bit, Has, Sub, Least, bit_le, ones_none, trailing_least, shl_one}
+use Rattle.sets.specs.Sets.{bit, Has, Sub, Least, bit_le, trailing_least, shl_one}
+use Rattle.sets.proofs.Sets.{ones_none}
 use Rattle.sets.specs.Members.{members}
 use Rattle.sets.specs.Laws.Sums.{either}
-use Rattle.sets.specs.Laws.Drop.{drop-sub, drop_lt, ones-drop}
-use Rattle.sets.specs.Laws.Members.{members-empty, members-least}
+use Rattle.sets.proofs.Laws.Drop.{drop-sub, drop_lt, ones-drop}
+use Rattle.sets.proofs.Laws.Members.{members-empty, members-least}
 use Rattle.roster.specs.Limits.{crew_limit}
 use Rattle.roster.specs.Replies.{no_crews}
 use Rattle.crews.specs.declared.Filling.{Filling}
@@ -24,8 +25,8 @@ use Rattle.crews.specs.Filling.{Work, Outcome, missing_of, place_of, close_of, c
 use Rattle.sets.specs.Arrays.{at}
 use Rattle.crews.specs.Filled.{filled_of}
 use Rattle.crews.specs.Inner.Placing.{closed_where, HasRoom, stuck, eligible_of, Ready, Placing}
-use Rattle.crews.specs.Laws.Search.{pool_in, search-full}
-use Rattle.crews.specs.Laws.Steps as step
+use Rattle.crews.proofs.Laws.Search.{pool_in, search-full}
+use Rattle.crews.proofs.Laws.Steps as step
 
 -- ---- a placement
 

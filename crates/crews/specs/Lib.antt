@@ -5,4 +5,3 @@ pub mod Order
 pub mod Named
 pub mod Filled
 pub mod Inner
-pub mod Laws

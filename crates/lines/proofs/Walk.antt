@@ -8,7 +8,7 @@ use lib.Bits.{bit_xor}
 use lib.Count.{count_trailing_zeros}
 use lib.ListN.{length, get_or, drop, drop_of_length-le}
 use lib.Seq.{drop-cons}
-use Rattle.sets.specs.Laws.Members.{members-empty, members-least}
+use Rattle.sets.proofs.Laws.Members.{members-empty, members-least}
 use Rattle.text.specs.Text.{decimal, marked, joined}
 use Rattle.lines.specs.Lines.{names, between_members, set_text, filled, between_crews}
 

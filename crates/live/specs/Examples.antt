@@ -13,7 +13,8 @@ use Rattle.crews.specs.Filling.{place_of, close_of, closes_of, placed_of, pool_o
 use Rattle.absences.specs.Tried.{row_from, full, skipping, joins, listed, sizes_from, weighed}
 use Rattle.absences.specs.Replied.{policy_reply_of}
 use Rattle.absences.specs.Examples.{Example, policy, named, H, table_of as table_with, set_of_rows, yes_with, no_with, crews-with, none-with, ample}
-use Rattle.absences.specs.Examples.{AllAllowed, all_allowed}
+use Rattle.absences.specs.Examples.{AllAllowed}
+use Rattle.absences.proofs.Examples.{all_allowed}
 use Rattle.live.specs.Changes.{Call, hire, leave, grant, revoke, first_from, told_of, empty, gathered_of, table_of}
 use Rattle.live.specs.Numbers.{objection_number}
 use Rattle.live.specs.declared.Roster.{Roster}

@@ -7,7 +7,7 @@ use Rattle.std.specs.Int.Count.{ones}
 use Rattle.roster.specs.declared.Policy.{Policy}
 use Rattle.accounts.specs.Persons.{persons}
 use Rattle.accounts.specs.Meaning.{PersonCrews, PersonsBlock, FirstPersonsBlock}
-use Rattle.accounts.specs.Laws.Merged.{crews_of_persons, first_of_persons}
+use Rattle.accounts.proofs.Laws.Merged.{crews_of_persons, first_of_persons}
 use Rattle.book.specs.Layout.{Contents}
 use Rattle.book.specs.Promises.{Bytes, accounts_for}
 use Rattle.text.specs.Text.{quoted, decimal}

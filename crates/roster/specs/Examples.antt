@@ -6,7 +6,7 @@ use Rattle.sets.specs.Sets.{bit}
 use Rattle.sets.specs.Sums.{sum_to, to_n}
 use Rattle.sets.specs.Members.{cons?, members, filter}
 use Rattle.sets.specs.Arrays.{tabulate}
-use Rattle.sets.specs.Laws.Image.{image, put}
+use Rattle.sets.proofs.Laws.Image.{image, put}
 use Rattle.roster.specs.declared.Table.{Table}
 use Rattle.roster.specs.declared.Policy.{Policy}
 use Rattle.roster.specs.declared.Made.{Made}

@@ -1,9 +1,3 @@
-pub mod Rulings
-pub mod Rank
-pub mod Order
-pub mod Lists
-pub mod Swap
 pub mod Limits
-pub mod Same
 pub mod Fewer
-pub mod Editions
+pub mod Lists

@@ -1,14 +1,6 @@
 pub mod Digits
-pub mod Subsets
 pub mod Least
 pub mod Missing
-pub mod Sizes
-pub mod Change
-pub mod Drop
-pub mod Unions
 pub mod Sums
 pub mod Tests
-pub mod Build
-pub mod Members
-pub mod Image
 pub mod Arrays

@@ -1,5 +1,3 @@
-pub mod Decimal
 pub mod Appends
 pub mod Every
 pub mod Marks
-pub mod Numbers

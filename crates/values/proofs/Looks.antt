@@ -12,7 +12,7 @@ use lib.Dec.{leb}
 use borrow.Author.Tests.{ltb-false}
 use Rattle.sets.specs.Arrays.{tabulate}
 use Rattle.sets.specs.Laws.Arrays.{length-tabulate}
-use Rattle.roster.specs.Laws.Rulings.{inside}
+use Rattle.roster.proofs.Laws.Rulings.{inside}
 use Rattle.book.specs.Reading.{Kind, codes, rows_of, policies_of, amiss_if, not_above, staff_of}
 use Rattle.book.specs.Inner.Steps.{count_amiss_in}
 use Rattle.book.specs.Laws.First.{not_amiss}

@@ -11,8 +11,8 @@ use Rattle.book.specs.Layout.{Contents, permission_limit, policy_limit}
 use Rattle.book.specs.Reading.{form_of, read_of, starts_of}
 use Rattle.book.specs.Parts.{starts_in, code_at, row_at, policy_in, policy_at}
 use Rattle.book.specs.Promises.{Bytes, code_by, row_by, policy_by, PartsOf}
-use Rattle.book.specs.Laws.Books.{Good, Refused, reply, good_layout}
-use Rattle.book.specs.Laws.Parts.{layout_parts, refused_parts}
+use Rattle.book.proofs.Laws.Books.{Good, Refused, reply, good_layout}
+use Rattle.book.proofs.Laws.Parts.{layout_parts, refused_parts}
 use Rattle.book.specs.declared.Reading.{Reading}
 use Rattle.book.specs.declared.Row.{Row}
 use Rattle.values.specs.Values.{nobody, unasked, contents_by}

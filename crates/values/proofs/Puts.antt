@@ -10,7 +10,7 @@ use Rattle.sets.specs.Laws.Arrays.{length-tabulate}
 use Rattle.roster.specs.declared.Policy.{Policy}
 use Rattle.book.specs.Layout.{little_endian, field_bytes, section, bytes_of, code_widths, row_widths, policy_widths, code_fields, row_fields, policy_fields, form_has_persons, form_has_editions, lead}
 use Rattle.book.specs.Reading.{rows_of, policies_of, width, front}
-use Rattle.book.specs.Laws.Books.{lead-front}
+use Rattle.book.proofs.Laws.Books.{lead-front}
 use Rattle.book.specs.declared.Form.{Form}
 use Rattle.book.specs.declared.Form.TheVariants.{Old, Persons, Editions}
 use Rattle.book.specs.declared.Row.{Row}

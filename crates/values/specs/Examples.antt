@@ -9,7 +9,7 @@ use Rattle.book.specs.Layout.{Contents, bytes_of, joined, field_bytes, little_en
 use Rattle.book.specs.Cases.{values_b, book_b, values_new_b, new_b, values_editions_b, editions_b}
 use Rattle.book.specs.declared.Form.{Form}
 use Rattle.book.specs.declared.Form.TheVariants.{Old, Persons, Editions}
-use Rattle.book.specs.Laws.Longest.{fullest}
+use Rattle.book.proofs.Laws.Longest.{fullest}
 use Rattle.book.specs.declared.Row.{Row}
 use Rattle.values.specs.Values.{contents_for, values_for}
 use Rattle.values.specs.Writing.{unwritten_number, value_looks, first_of}

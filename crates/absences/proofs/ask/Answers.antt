@@ -11,12 +11,12 @@ use Rattle.roster.specs.declared.Table.{Table}
 use Rattle.roster.specs.Limits.{row_limit}
 use Rattle.roster.specs.declared.Ruling.TheVariants.{Admitted}
 use Rattle.roster.specs.Refusals.{policy_ruling}
-use Rattle.roster.specs.Laws.Rulings as rulings
+use Rattle.roster.proofs.Laws.Rulings as rulings
 use Rattle.sets.specs.Arrays.{tabulate, at}
 use Rattle.crews.specs.Filling.{holds_of}
 use Rattle.absences.specs.declared.Search.{Search}
 use Rattle.absences.specs.Tried.{Way, row_at}
-use Rattle.absences.specs.Laws.Rows.{row_at_lt}
+use Rattle.absences.proofs.Laws.Rows.{row_at_lt}
 use Rattle.absences.specs.Inner.Walk.{way_of, rank_by, weight_by, Counted, Lent, Ranked, searched_by}
 use Rattle.absences.proofs.Rank.{counted_of, order_at, weight_at}
 use Rattle.absences.proofs.Replied.{ruled}

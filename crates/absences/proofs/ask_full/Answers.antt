@@ -2,7 +2,7 @@
 use Prim.Native.Nat.{◌^◌, ◌<◌}
 use borrow.Author.Rules.{rules}
 use Rattle.absences.specs.Tried.{full}
-use Rattle.absences.specs.Laws.Demands.{policy_allowed}
+use Rattle.absences.proofs.Laws.Demands.{policy_allowed}
 use Rattle.absences.proofs.ask_full.Goals as goal
 use Rattle.absences.proofs.ask_full.Goals.{Start}
 

@@ -2,7 +2,7 @@
 use Prim.Native.Nat.{◌^◌, ◌<◌}
 use borrow.Author.Rules.{rules}
 use Rattle.absences.specs.Tried.{skipping}
-use Rattle.absences.specs.Laws.Demands.{policy_allowed}
+use Rattle.absences.proofs.Laws.Demands.{policy_allowed}
 use Rattle.absences.proofs.ask_skipping.Goals as goal
 use Rattle.absences.proofs.ask_skipping.Goals.{Start}
 

@@ -9,7 +9,7 @@ use Rattle.absences.specs.Inner.Opens.{Opens}
 use Rattle.absences.specs.Inner.Walk.{Lent, Ranked, walked_by, onward}
 use Rattle.absences.specs.Tried.{Way, sizes_from}
 use Rattle.absences.specs.declared.Search.{Search}
-use Rattle.absences.specs.Laws.Open.{all_open}
+use Rattle.absences.proofs.Laws.Open.{all_open}
 use Rattle.absences.proofs.Sizes.{sizes_end, size_none, size_stops}
 use Rattle.absences.proofs.by_size.Goals as goal
 use Rattle.absences.proofs.by_size.Goals.{After-walk-walked}

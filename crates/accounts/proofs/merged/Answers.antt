@@ -6,7 +6,7 @@ use borrow.Author.Rules.{rules}
 use Rattle.sets.specs.Arrays.{at}
 use Rattle.accounts.specs.declared.Accounts.{Accounts}
 use Rattle.accounts.specs.Persons.{person_of}
-use Rattle.accounts.specs.Laws.Merging.{Merging, merging_none, merging_place, place_below, merging_new, merging_known, merged_all}
+use Rattle.accounts.proofs.Laws.Merging.{Merging, merging_none, merging_place, place_below, merging_new, merging_known, merged_all}
 use Rattle.accounts.proofs.merged.Goals as goal
 use Rattle.accounts.proofs.merged.Goals.{After-place_of-place, then-place-count, else-place-count}
 

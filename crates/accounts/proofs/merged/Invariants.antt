@@ -1,7 +1,7 @@
 -- After each row the arrays are those of the persons of the rows so far (`Merging`). Assumes nothing.
 use Prim.Native.Nat.{◌-◌, ◌≤◌}
 use Rattle.sets.specs.Arrays.{at}
-use Rattle.accounts.specs.Laws.Merging.{Merging}
+use Rattle.accounts.proofs.Laws.Merging.{Merging}
 use Rattle.accounts.proofs.merged.Given as goal
 
 abbrev pub invariant-loop-row : goal.invariant-loop-row

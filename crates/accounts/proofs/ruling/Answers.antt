@@ -1,6 +1,6 @@
 -- More than 64 rows are refused, and nothing else. Assumes nothing.
 use mathlib.Core.Path.{sym}
-use Rattle.accounts.specs.Laws.Rulings.{many_refused, few_admitted}
+use Rattle.accounts.proofs.Laws.Rulings.{many_refused, few_admitted}
 use Rattle.accounts.proofs.ruling.Goals as goal
 
 pub returns-then-accounts-gt-ROWS : goal.returns-then-accounts-gt-ROWS

@@ -9,8 +9,8 @@ use Rattle.sets.specs.Arrays.{at}
 use Rattle.crews.specs.declared.Filling.{Filling}
 use Rattle.crews.specs.Filling.{pool_of}
 use Rattle.crews.specs.Inner.Placing.{eligible_of}
-use Rattle.crews.specs.Laws.Search.{search-done}
-use Rattle.crews.specs.Laws.Steps as step
+use Rattle.crews.proofs.Laws.Search.{search-done}
+use Rattle.crews.proofs.Laws.Steps as step
 use Rattle.crews.proofs.Turns as turn
 use Rattle.crews.proofs.+go_on_try_each.Goals as goal
 

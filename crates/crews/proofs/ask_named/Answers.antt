@@ -17,15 +17,15 @@ use Rattle.roster.specs.declared.Reply.{Reply}
 use Rattle.roster.specs.Meaning.{least_members}
 use Rattle.roster.specs.Refusals.{named_ruling, named_ruling_of}
 use Rattle.roster.specs.Replies.{no_crews, reply_with}
-use Rattle.roster.specs.Laws.Rulings.{named_within}
+use Rattle.roster.proofs.Laws.Rulings.{named_within}
 use Rattle.crews.specs.Filling.{Outcome, orderly, holds_of, holders_of, present, filling}
 use Rattle.sets.specs.Arrays.{tabulate, at}
 use Rattle.crews.specs.Filled.{ending_of, filled_of, found_from}
 use Rattle.crews.specs.Inner.Replied.{verdict_of, replied_of}
 use Rattle.crews.specs.Named.{NamedReply}
-use Rattle.crews.specs.Laws.Named.{allowed_by}
-use Rattle.crews.specs.Laws.Steps.{filled-fits, filled-over}
-use Rattle.crews.specs.Laws.Arrays.{lent_filling}
+use Rattle.crews.proofs.Laws.Named.{allowed_by}
+use Rattle.crews.proofs.Laws.Steps.{filled-fits, filled-over}
+use Rattle.crews.proofs.Laws.Arrays.{lent_filling}
 use Rattle.crews.proofs.ask_named.Goals as goal
 use Rattle.crews.proofs.ask_named.Goals.{After-named_ruling, Start}
 

@@ -5,7 +5,7 @@ use lib.Bits.{bit_and, and_zero_l}
 use lib.ListN.{get_or-eq_default}
 use borrow.Author.Rules.{rules}
 use Rattle.sets.specs.Arrays.{at}
-use Rattle.crews.specs.Laws.Search.{pool-short, pool_whole}
+use Rattle.crews.proofs.Laws.Search.{pool-short, pool_whole}
 use Rattle.crews.proofs.candidates.Goals as goal
 
 pub returns-then-missing-eq0 : goal.returns-then-missing-eq0

@@ -4,15 +4,15 @@ use mathlib.Core.Path.{refl, sym, ap, ◌∙◌}
 use Prim.Native.Nat.{◌≤◌}
 use native.Mathlib.Omega.{arith}
 use lib.Count.{ones}
-use Rattle.sets.specs.Sets.{ones_none}
+use Rattle.sets.proofs.Sets.{ones_none}
 use Rattle.crews.specs.declared.Filling.{Filling}
 use Rattle.crews.specs.Filling.{begin, orderly}
 use Rattle.crews.specs.Filling as definition
 use Rattle.sets.specs.Arrays.{at}
 use Rattle.crews.specs.Filled.{filled_of, found_from}
 use Rattle.crews.specs.Inner.Placing.{closed_where}
-use Rattle.crews.specs.Laws.Search.{search-full}
-use Rattle.crews.specs.Laws.Steps.{filled-over, says_exhausted, begun_short, found_few, found-many, found-idle}
+use Rattle.crews.proofs.Laws.Search.{search-full}
+use Rattle.crews.proofs.Laws.Steps.{filled-over, says_exhausted, begun_short, found_few, found-many, found-idle}
 use Rattle.crews.proofs.fill.Goals as goal
 use Rattle.crews.proofs.fill.Goals.{else-size-eq0, then-size-eq0+else-crews-ne0}
 

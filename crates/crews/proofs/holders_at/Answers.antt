@@ -8,7 +8,7 @@ use lib.Bits.{bit_and, bit_or}
 use Rattle.sets.specs.Sets.{bit, bit_le, shr_and_one}
 use Rattle.sets.specs.Members.{set_of}
 use Rattle.sets.specs.Laws.Tests.{has_hasb, out_hasb}
-use Rattle.sets.specs.Laws.Build.{set_of-none, set_of_added, set_of_passed}
+use Rattle.sets.proofs.Laws.Build.{set_of-none, set_of_added, set_of_passed}
 use Rattle.sets.specs.Arrays.{at}
 use Rattle.crews.proofs.holders_at.Invariants.{holding}
 use Rattle.crews.proofs.holders_at.Goals as goal

@@ -5,11 +5,12 @@ use Rattle.std.proofs.Math.Option.{Option, some, none}
 use mathlib.Core.List.Memᴰ
 use Rattle.std.specs.Int.Count.{ones_in}
 use Rattle.std.proofs.lemmas.List.{length-map}
-use Rattle.sets.specs.Sets.{bit, Has, bit_below, lt_pow, ones_bound, ones-width}
+use Rattle.sets.specs.Sets.{bit, Has, bit_below, lt_pow}
+use Rattle.sets.proofs.Sets.{ones_bound, ones-width}
 use Rattle.sets.specs.Arrays.{tabulate, at}
 use Rattle.sets.specs.Laws.Arrays.{length-tabulate, at-tabulate}
 use Rattle.book.specs.Layout.{Contents, Own, OwnEdition, form_has_persons, form_has_editions, Each, Below, Ascends, Admitted}
-use Rattle.book.specs.Laws.Old.{ascending}
+use Rattle.book.proofs.Laws.Old.{ascending}
 use Rattle.book.specs.declared.Form.{Form}
 use Rattle.book.specs.declared.Form.TheVariants.{Old, Persons, Editions}
 use Rattle.book.specs.declared.Row.{Row}

@@ -23,10 +23,10 @@ use Rattle.book.specs.Layout.{Contents, form_has_persons, bytes_of, Own, Each, A
 use Rattle.book.specs.Reading.{read_of}
 use Rattle.book.specs.Parts.{row_or0, contents_of, accounts_in}
 use Rattle.book.specs.Promises.{Bytes, row_by, accounts_for}
-use Rattle.book.specs.Laws.Books.{good_layout}
-use Rattle.book.specs.Laws.Old.{old_different}
-use Rattle.book.specs.Laws.Parts.{layout_parts}
-use Rattle.book.specs.Laws.Values.{each}
+use Rattle.book.proofs.Laws.Books.{good_layout}
+use Rattle.book.proofs.Laws.Old.{old_different}
+use Rattle.book.proofs.Laws.Parts.{layout_parts}
+use Rattle.book.proofs.Laws.Values.{each}
 use Rattle.book.specs.declared.Form.{Form}
 use Rattle.book.specs.declared.Form.TheVariants.{Old, Persons, Editions}
 use Rattle.book.specs.declared.Reading.TheVariants as read

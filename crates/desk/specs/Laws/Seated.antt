@@ -16,16 +16,16 @@ use Rattle.sets.specs.Sums.{to_n}
 use Rattle.sets.specs.Members.{members, hasb}
 use Rattle.sets.specs.Laws.Sums.{either, to_n-true, to_n-false}
 use Rattle.sets.specs.Laws.Tests.{to_n-hasb}
-use Rattle.sets.specs.Laws.Build.{set_of_lt, set_of-bit}
-use Rattle.sets.specs.Laws.Members.{has_of_mem, mem_of_has}
+use Rattle.sets.proofs.Laws.Build.{set_of_lt, set_of-bit}
+use Rattle.sets.proofs.Laws.Members.{has_of_mem, mem_of_has}
 use Rattle.sets.specs.Arrays.{tabulate, at}
 use Rattle.sets.specs.Laws.Arrays.{length-tabulate, get_d_tabulate, tabulated, at-tabulate, at-past}
 use Rattle.roster.specs.declared.Table.{Table}
 use Rattle.crews.specs.Filling.{holders_of}
 use Rattle.book.specs.Layout.{Each, Ascends}
-use Rattle.book.specs.Laws.Parts.{each_nth}
-use Rattle.book.specs.Laws.Old.{ascending}
-use Rattle.book.specs.Laws.View.{not_there}
+use Rattle.book.proofs.Laws.Parts.{each_nth}
+use Rattle.book.proofs.Laws.Old.{ascending}
+use Rattle.book.proofs.Laws.View.{not_there}
 use Rattle.book.specs.declared.Row.{Row}
 use Rattle.values.specs.Values.{nobody}
 use Rattle.live.specs.Changes.{table_of}

@@ -8,8 +8,8 @@ use Rattle.sets.specs.Laws.Arrays.{length-tabulate, get_d_tabulate, tabulated}
 use Rattle.roster.specs.Limits.{row_limit}
 use Rattle.accounts.specs.Persons.{first_of, leads, count_of, persons, rows_of}
 use Rattle.accounts.specs.Meaning.{Different}
-use Rattle.accounts.specs.Laws.Numbering as numbering
-use Rattle.accounts.specs.Laws.Merged.{own-persons}
+use Rattle.accounts.proofs.Laws.Numbering as numbering
+use Rattle.accounts.proofs.Laws.Merged.{own-persons}
 use Rattle.accounts.specs.declared.Accounts.{Accounts}
 use Rattle.book.specs.Layout.{Contents}
 use Rattle.book.specs.Reading.{read_of}

@@ -8,9 +8,10 @@ use native.Mathlib.Omega.{arith}
 use Rattle.std.proofs.Math.Decide.{dec_lt}
 use Rattle.std.specs.Int.Count.{ones}
 use Rattle.std.proofs.Math.ListN.{length, length-append}
-use Rattle.sets.specs.Sets.{bit, bit_le, bit-none, ones_bound, ones_pos, bit_below}
+use Rattle.sets.specs.Sets.{bit, bit_le, bit-none, bit_below}
+use Rattle.sets.proofs.Sets.{ones_bound, ones_pos}
 use Rattle.sets.specs.Members.{members}
-use Rattle.sets.specs.Laws.Members.{length-members}
+use Rattle.sets.proofs.Laws.Members.{length-members}
 use Rattle.roster.specs.declared.Verdict.{Verdict}
 use Rattle.roster.specs.declared.Verdict.TheVariants.{Yes, No, Undecided, Crews, None, Refused}
 use Rattle.roster.specs.declared.Reply.{Reply}
@@ -20,11 +21,11 @@ use Rattle.roster.specs.Replies.{no_crews, reply_with}
 use Rattle.crews.specs.Named.{first_list}
 use Rattle.sets.specs.Arrays.{tabulate}
 use Rattle.sets.specs.Laws.Arrays.{at-tabulate, at-past}
-use Rattle.crews.specs.Laws.Exact.{crews-past}
+use Rattle.crews.proofs.Laws.Exact.{crews-past}
 use Rattle.absences.specs.Asked.{need_policy, PolicyReply}
 use Rattle.absences.specs.Replied.{policy_reply_of}
-use Rattle.absences.specs.Laws.Decided.{Case, is_refused_lem, is_undecided, is_yes, is_no, admitted_fair, policy_case}
-use Rattle.absences.specs.Laws.Demands.{policy_allowed, holds-list}
+use Rattle.absences.proofs.Laws.Decided.{Case, is_refused_lem, is_undecided, is_yes, is_no, admitted_fair, policy_case}
+use Rattle.absences.proofs.Laws.Demands.{policy_allowed, holds-list}
 use Rattle.roster.specs.Refusals.{number_of, policy_ruling, made_by}
 use Rattle.roster.specs.declared.Refusal.{Refusal}
 use Rattle.roster.specs.declared.Refusal.TheVariants as refusal
@@ -34,7 +35,7 @@ use Rattle.roster.specs.declared.Ruling.TheVariants as ruling
 use Rattle.accounts.specs.declared.Accounts.{Accounts}
 use Rattle.accounts.specs.Persons.{where?, number_of as Persons·numberOf, persons, number, merged}
 use Rattle.accounts.specs.Refusals.{accounts_ruling}
-use Rattle.accounts.specs.Laws.Merged.{at_numbers}
+use Rattle.accounts.proofs.Laws.Merged.{at_numbers}
 use Rattle.questions.specs.Replied.{behind, policy_answer_of}
 use Rattle.book.specs.Layout.{form_has_persons}
 use Rattle.book.specs.Faults.{fault_number}
@@ -42,11 +43,11 @@ use Rattle.book.specs.Promises.{Bytes}
 use Rattle.book.specs.Reading.{fields_at, rows, policies_of, entry_at, form_of, starts_of, read_of}
 use Rattle.book.specs.Parts.{starts_in, row_place, row_from, row_by_number, row_or0, accounts_in, contents_of, policy_count_of, listed_by, policy_from, policy_place, policy_at}
 use Rattle.book.specs.Laws.Codec.{number_fits}
-use Rattle.book.specs.Laws.Books.{reply, good_layout}
-use Rattle.book.specs.Laws.Books as books
-use Rattle.book.specs.Laws.Parts.{layout_parts}
-use Rattle.book.specs.Laws.Prefix.{prefix_reply}
-use Rattle.book.specs.Laws.Refused.{refused_place}
+use Rattle.book.proofs.Laws.Books.{reply, good_layout}
+use Rattle.book.proofs.Laws.Books as books
+use Rattle.book.proofs.Laws.Parts.{layout_parts}
+use Rattle.book.proofs.Laws.Prefix.{prefix_reply}
+use Rattle.book.proofs.Laws.Refused.{refused_place}
 use Rattle.book.specs.declared.Fault.{Fault}
 use Rattle.book.specs.declared.Fault.TheVariants.{Short, Permissions, Code, Rows, Staff, Holdings, Policies, Task, Policy as PolicyFault, Excess}
 use Rattle.book.specs.declared.Reading.{Reading}
@@ -56,8 +57,8 @@ use Rattle.book.specs.declared.Place.TheVariants as place
 use Rattle.text.specs.Text.{decimal, marked, joined}
 use Rattle.lines.specs.Lines.{verdict_word, names, between_members, set_text, filled, between_crews, crews_text, sets_text, line_of, bad_line}
 use Rattle.lines.specs.Sheet.{allowance, way, numbers_in, reply_to, line_by, lines_from, sheet_by, sheet_of, longest}
-use Rattle.text.specs.Laws.Decimal.{decimal-length}
-use Rattle.sets.specs.Laws.Unions.{ones_of, Disjoint, disjoint_few}
+use Rattle.text.proofs.Laws.Decimal.{decimal-length}
+use Rattle.sets.proofs.Laws.Unions.{ones_of, Disjoint, disjoint_few}
 
 -- ---- how long lists are written
 

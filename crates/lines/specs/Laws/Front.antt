@@ -2,10 +2,10 @@
 -- front. Assumes nothing.
 use Rattle.std.specs.Prelude.{◌≡◌, List, ℕ, ◌≤◌, length, take}
 use Rattle.std.proofs.Common.{sym, ap, ◌∙◌, ⊎_elim, arith, take_all, take-take, ltb-false}
-use Rattle.roster.specs.Laws.Rulings.{inside}
+use Rattle.roster.proofs.Laws.Rulings.{inside}
 use Rattle.book.specs.Reading.{count_at, past, form_of, front, read_of}
-use Rattle.book.specs.Laws.Books.{rows_at, policies_at, BookSound, Good, Refused, reply}
-use Rattle.book.specs.Laws.Prefix.{near_front, near_row, near_policy, prefix_reply}
+use Rattle.book.proofs.Laws.Books.{rows_at, policies_at, BookSound, Good, Refused, reply}
+use Rattle.book.proofs.Laws.Prefix.{near_front, near_row, near_policy, prefix_reply}
 use Rattle.book.specs.declared.Form.{Form}
 use Rattle.lines.specs.Sheet.{sheet_by, sheet_of, enough}
 

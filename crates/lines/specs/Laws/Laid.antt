@@ -11,13 +11,13 @@ use Rattle.absences.specs.Replied.{policy_reply_of}
 use Rattle.accounts.specs.declared.Accounts.{Accounts}
 use Rattle.accounts.specs.declared.People.{People}
 use Rattle.accounts.specs.Persons.{people_of}
-use Rattle.accounts.specs.Laws.Rulings.{few_admitted}
+use Rattle.accounts.proofs.Laws.Rulings.{few_admitted}
 use Rattle.questions.specs.Replied.{behind}
 use Rattle.book.specs.Layout.{Contents, LayoutOf}
 use Rattle.book.specs.Parts.{policy_at}
 use Rattle.book.specs.Promises.{policy_by, accounts_for}
-use Rattle.book.specs.Laws.Books.{layout_good}
-use Rattle.book.specs.Laws.Parts.{layout_parts}
+use Rattle.book.proofs.Laws.Books.{layout_good}
+use Rattle.book.proofs.Laws.Parts.{layout_parts}
 use Rattle.book.specs.declared.Listed.TheVariants as listed
 use Rattle.lines.specs.Lines.{line_of}
 use Rattle.lines.specs.Sheet.{allowance, way, answer_to, numbers_in, reply_to, line_by, lines_from, sheet_by, sheet_of}

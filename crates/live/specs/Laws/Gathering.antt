@@ -7,9 +7,10 @@ use Rattle.std.specs.Int.Bits.{bit_xor}
 use Rattle.std.specs.Int.Count.{ones, count_trailing_zeros}
 use Rattle.std.proofs.lemmas.List.{length-map}
 use Rattle.std.proofs.Math.ListN.{get_or-eq_default}
-use Rattle.sets.specs.Sets.{Has, shl_one, trailing_least, bit_below, ones_bound, ones_none, ones-drop, drop_lt}
+use Rattle.sets.specs.Sets.{Has, shl_one, trailing_least, bit_below}
+use Rattle.sets.proofs.Sets.{ones_bound, ones_none, ones-drop, drop_lt}
 use Rattle.sets.specs.Members.{members}
-use Rattle.sets.specs.Laws.Members.{members-least, length-members}
+use Rattle.sets.proofs.Laws.Members.{members-least, length-members}
 use Rattle.sets.specs.Arrays.{tabulate}
 use Rattle.sets.specs.Laws.Arrays.{Passed, passed_none, passed_stored, tabulated}
 

@@ -7,7 +7,7 @@ use mathlib.Core.List.{List, [], ◌∷◌, map}
 use Rattle.std.proofs.Math.ListN.{length, length-map}
 use Rattle.sets.specs.Sets.{bit, bit-zero, bit-suc, ext}
 use Rattle.sets.specs.Members.{cons?, members}
-use Rattle.sets.specs.Laws.Build.{set_of_lt, set_of-bit}
+use Rattle.sets.proofs.Laws.Build.{set_of_lt, set_of-bit}
 use Rattle.sets.specs.Arrays.{at, tabulate}
 use Rattle.roster.specs.declared.Table.{Table}
 use Rattle.roster.specs.declared.Reply.{Reply}

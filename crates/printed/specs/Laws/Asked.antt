@@ -10,12 +10,12 @@ use Rattle.roster.specs.declared.Reply.{Reply}
 use Rattle.roster.specs.declared.Ruling.TheVariants.{Admitted}
 use Rattle.absences.specs.Tried.{skipping}
 use Rattle.accounts.specs.Persons.{persons}
-use Rattle.accounts.specs.Laws.Merged.{persons_few}
+use Rattle.accounts.proofs.Laws.Merged.{persons_few}
 use Rattle.absences.specs.Asked.{Admits, Tells}
-use Rattle.absences.specs.Laws.Demands.{policy_allowed, policy_exactly}
+use Rattle.absences.proofs.Laws.Demands.{policy_allowed, policy_exactly}
 use Rattle.book.specs.Layout.{Contents, PolicyFits}
 use Rattle.book.specs.Promises.{accounts_for}
-use Rattle.book.specs.Laws.Parts.{each_nth}
+use Rattle.book.proofs.Laws.Parts.{each_nth}
 use Rattle.text.specs.Text.{newline}
 use Rattle.text.specs.Cut.{lines_of}
 use Rattle.lines.specs.Lines.{line_of}

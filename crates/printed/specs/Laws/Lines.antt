@@ -13,7 +13,7 @@ use Rattle.text.specs.Text.{quoted, space, newline, comma, slash, dash, decimal,
 use Rattle.text.specs.Cut.{◌␣◌, Lacks}
 use Rattle.text.specs.Laws.Every.{every_map}
 use Rattle.text.specs.Laws.Marks.{parted, lacks_word, over, lacks_over, joined_lacks}
-use Rattle.text.specs.Laws.Numbers.{NoDigit, decimal_lacks, decimal_same}
+use Rattle.text.proofs.Laws.Numbers.{NoDigit, decimal_lacks, decimal_same}
 use Rattle.lines.specs.Lines.{verdict_word, names, set_text, filled, sets_text, line_of, bad_line}
 
 pub never : {A : Type 0} → ◌≡◌ {A = ℕ} 0 1 → A

@@ -7,17 +7,17 @@ use Rattle.std.proofs.Math.Option.{some}
 use Rattle.std.proofs.Math.ListN.{get_elem?}
 use Rattle.sets.specs.Sets.{bit_below}
 use Rattle.sets.specs.Members.{members}
-use Rattle.sets.specs.Laws.Members.{has_of_mem}
+use Rattle.sets.proofs.Laws.Members.{has_of_mem}
 use Rattle.roster.specs.Limits.{row_limit}
 use Rattle.accounts.specs.declared.Accounts.{Accounts}
 use Rattle.accounts.specs.Persons.{rows_of, person, persons, number}
-use Rattle.accounts.specs.Laws.Merged.{same_person, every_person, at_numbers, numbered, own-person}
+use Rattle.accounts.proofs.Laws.Merged.{same_person, every_person, at_numbers, numbered, own-person}
 use Rattle.book.specs.declared.Row.{Row}
 use Rattle.book.specs.declared.Form.TheVariants.{Old}
 use Rattle.book.specs.Layout.{Contents, LayoutOf}
 use Rattle.book.specs.Promises.{accounts_for}
-use Rattle.book.specs.Laws.Old.{old-person, old_different}
-use Rattle.book.specs.Laws.View.{there, account_of}
+use Rattle.book.proofs.Laws.Old.{old-person, old_different}
+use Rattle.book.proofs.Laws.View.{there, account_of}
 use Rattle.text.specs.Text.{comma, decimal, joined}
 use Rattle.text.specs.Cut.{Every}
 use Rattle.text.specs.Laws.Every.{map_ext}

@@ -14,17 +14,17 @@ use Rattle.roster.specs.declared.Policy.{Policy}
 use Rattle.roster.specs.declared.Reply.{Reply}
 use Rattle.absences.specs.Tried.{skipping}
 use Rattle.absences.specs.Replied.{policy_reply_of}
-use Rattle.absences.specs.Laws.Demands.{policy_allowed}
+use Rattle.absences.proofs.Laws.Demands.{policy_allowed}
 use Rattle.accounts.specs.Persons.{number}
 use Rattle.accounts.specs.Meaning.{row_by_row}
-use Rattle.accounts.specs.Laws.Merged.{not_numbered, own-persons}
+use Rattle.accounts.proofs.Laws.Merged.{not_numbered, own-persons}
 use Rattle.questions.specs.Laws.Replies.{policy_answered, policy_as_before}
 use Rattle.book.specs.Layout.{Contents, bytes_of, Own, OwnEdition, form_has_persons, form_has_editions, Each, Admitted, LayoutOf}
 use Rattle.book.specs.Parts.{row_or0}
 use Rattle.book.specs.Promises.{row_by, accounts_for}
-use Rattle.book.specs.Laws.Old.{old_different, older_edition}
-use Rattle.book.specs.Laws.Parts.{layout_parts}
-use Rattle.book.specs.Laws.View.{there, not_there}
+use Rattle.book.proofs.Laws.Old.{old_different, older_edition}
+use Rattle.book.proofs.Laws.Parts.{layout_parts}
+use Rattle.book.proofs.Laws.View.{there, not_there}
 use Rattle.book.specs.declared.Row.{Row}
 use Rattle.book.specs.declared.Form.{Form}
 use Rattle.book.specs.declared.Form.TheVariants.{Old, Persons, Editions}

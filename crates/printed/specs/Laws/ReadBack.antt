@@ -8,7 +8,7 @@ use Rattle.roster.specs.declared.Verdict.{Verdict}
 use Rattle.roster.specs.declared.Verdict.TheVariants.{Yes, No, Undecided, Crews, None, Refused}
 use Rattle.roster.specs.declared.Reply.{Reply}
 use Rattle.accounts.specs.Persons.{persons}
-use Rattle.accounts.specs.Laws.Merged.{persons_few}
+use Rattle.accounts.proofs.Laws.Merged.{persons_few}
 use Rattle.book.specs.Layout.{Contents, LayoutOf}
 use Rattle.book.specs.Promises.{accounts_for}
 use Rattle.text.specs.Text.{newline}

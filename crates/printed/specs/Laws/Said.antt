@@ -11,11 +11,11 @@ use Rattle.roster.specs.declared.Policy.{Policy}
 use Rattle.roster.specs.declared.Reply.{Reply}
 use Rattle.roster.specs.declared.Verdict.{Verdict}
 use Rattle.roster.specs.declared.Verdict.TheVariants.{Yes, No, Undecided}
-use Rattle.crews.specs.Laws.Exact.{Fair}
+use Rattle.crews.proofs.Laws.Exact.{Fair}
 use Rattle.absences.specs.Tried.{skipping}
 use Rattle.absences.specs.Asked.{Admits, Tells}
-use Rattle.absences.specs.Laws.Decided.{admitted_fair}
-use Rattle.absences.specs.Laws.Demands.{policy_yes, policy_no}
+use Rattle.absences.proofs.Laws.Decided.{admitted_fair}
+use Rattle.absences.proofs.Laws.Demands.{policy_yes, policy_no}
 use Rattle.book.specs.Layout.{Contents, LayoutOf}
 use Rattle.book.specs.Faults.{fault_number}
 use Rattle.book.specs.Promises.{Bytes, FirstFault}

@@ -3,15 +3,16 @@ use Rattle.std.specs.Prelude.{◌≡◌, refl, ◌≢◌, ℕ, zero, suc, ◌^�
 use Rattle.std.proofs.Math.Path.{sym}
 use Rattle.std.proofs.Common.{ap, ◌∙◌, subst, lt_of_lt_of_le, arith, pow_mono, pow_pos, ext_get_or}
 use mathlib.Core.List.{List, [], ◌∷◌, map, Memᴰ}
-use Rattle.sets.specs.Sets.{bit_below, ext_all, sub_of_has}
+use Rattle.sets.specs.Sets.{bit_below, ext_all}
+use Rattle.sets.proofs.Sets.{sub_of_has}
 use Rattle.sets.specs.Members.{members}
-use Rattle.sets.specs.Laws.Members.{has_of_mem, mem_of_has, members-empty}
+use Rattle.sets.proofs.Laws.Members.{has_of_mem, mem_of_has, members-empty}
 use Rattle.roster.specs.Limits.{row_limit}
 use Rattle.text.specs.Text.{comma, slash, dash, decimal, joined}
 use Rattle.text.specs.Cut.{Every, Lacks}
 use Rattle.text.specs.Laws.Every.{every_none, every_cons, every_map, map_same}
 use Rattle.text.specs.Laws.Marks.{joined_same}
-use Rattle.text.specs.Laws.Numbers.{decimal_lacks, decimal_no_dash, decimal_same}
+use Rattle.text.proofs.Laws.Numbers.{decimal_lacks, decimal_no_dash, decimal_same}
 use Rattle.lines.specs.Lines.{names, set_text, filled, crews_text}
 use Rattle.printed.specs.Words.{Different}
 use Rattle.printed.specs.Laws.Lines.{set_no_slash}

@@ -11,8 +11,8 @@ use Rattle.book.specs.Faults.{fault_number}
 use Rattle.book.specs.Reading.{form_of, starts_of}
 use Rattle.book.specs.Parts.{contents_of, policy_at}
 use Rattle.book.specs.Promises.{Bytes, FirstFault, policy_by}
-use Rattle.book.specs.Laws.Books.{layout_good, first_fault_refused, reply, good_layout}
-use Rattle.book.specs.Laws.Parts.{layout_parts}
+use Rattle.book.proofs.Laws.Books.{layout_good, first_fault_refused, reply, good_layout}
+use Rattle.book.proofs.Laws.Parts.{layout_parts}
 use Rattle.book.specs.declared.Fault.{Fault}
 use Rattle.book.specs.declared.Listed.TheVariants as listed
 use Rattle.text.specs.Text.{newline}

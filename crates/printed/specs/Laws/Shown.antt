@@ -10,11 +10,11 @@ use Rattle.roster.specs.declared.Table.{Table}
 use Rattle.roster.specs.declared.Verdict.{Verdict}
 use Rattle.roster.specs.declared.Verdict.TheVariants.{Yes, No, Undecided, Crews, None, Refused}
 use Rattle.roster.specs.declared.Reply.{Reply}
-use Rattle.crews.specs.Laws.Sound.{none-at}
+use Rattle.crews.proofs.Laws.Sound.{none-at}
 use Rattle.absences.specs.Tried.{Way}
 use Rattle.absences.specs.Asked.{Admits, need_policy, PolicyReply, Tells}
-use Rattle.absences.specs.Laws.Decided.{Case, is_refused_lem, is_undecided, is_yes, is_no, admitted_fair, policy_case}
-use Rattle.absences.specs.Laws.Demands.{policy_exactly}
+use Rattle.absences.proofs.Laws.Decided.{Case, is_refused_lem, is_undecided, is_yes, is_no, admitted_fair, policy_case}
+use Rattle.absences.proofs.Laws.Demands.{policy_exactly}
 use Rattle.printed.specs.Laws.Lines.{never, Worded, says_yes, says_no, says_undecided}
 use Rattle.printed.specs.Laws.Sets.{NoneBehind}
 

@@ -13,19 +13,19 @@ use Rattle.roster.specs.declared.Reply.{Reply}
 use Rattle.roster.specs.Limits.{row_limit}
 use Rattle.roster.specs.Refusals.{refused_if, policy_ruling, named_ruling}
 use Rattle.roster.specs.Replies.{no_crews, reply_with}
-use Rattle.roster.specs.Laws.Rulings.{or_else, named-after_policy, policy_nobody, policy_rows, named-rows, policy_few, past-rows_iff}
+use Rattle.roster.proofs.Laws.Rulings.{or_else, named-after_policy, policy_nobody, policy_rows, named-rows, policy_few, past-rows_iff}
 use Rattle.crews.specs.Named.{need_named, NamedReply}
-use Rattle.crews.specs.Laws.Named as named
+use Rattle.crews.proofs.Laws.Named as named
 use Rattle.absences.specs.Tried.{Way, full, skipping}
 use Rattle.absences.specs.Asked.{need_policy}
 use Rattle.absences.specs.Asked as tables
-use Rattle.absences.specs.Laws.Demands as policy
+use Rattle.absences.proofs.Laws.Demands as policy
 use Rattle.accounts.specs.declared.Accounts.{Accounts}
 use Rattle.accounts.specs.Persons.{persons, merged}
 use Rattle.accounts.specs.Meaning.{PersonCrews, PersonsBlock, FirstPersonsBlock, accounts_of, AccountSet, AccountCrews, AccountsHold, SmallestBlock}
-use Rattle.accounts.specs.Laws.Rulings.{many_refused, ManyOrFew, many-or_few}
-use Rattle.accounts.specs.Laws.Merged.{persons_few, crews_of_persons, blocks_of_persons, holds_of_persons, first_of_persons}
-use Rattle.accounts.specs.Laws.Accounts.{persons_of, persons_lt, nobody, person-set, to_accounts, accounts_hold, first_smallest}
+use Rattle.accounts.proofs.Laws.Rulings.{many_refused, ManyOrFew, many-or_few}
+use Rattle.accounts.proofs.Laws.Merged.{persons_few, crews_of_persons, blocks_of_persons, holds_of_persons, first_of_persons}
+use Rattle.accounts.proofs.Laws.Accounts.{persons_of, persons_lt, nobody, person-set, to_accounts, accounts_hold, first_smallest}
 use Rattle.questions.specs.Asked.{PolicyAsked, NamedAsked}
 use Rattle.questions.specs.Laws.Behind.{behind_both, behind_same}
 

@@ -3,13 +3,13 @@ use Rattle.std.specs.Prelude.{◌≡◌, ◌≢◌, ℕ, ◌^◌, ◌<◌}
 use Rattle.std.proofs.Common.{sym, ap, ◌∙◌, inl, inr, ⊎_elim, arith}
 use Rattle.roster.specs.declared.Verdict.TheVariants.{Yes, No, Undecided}
 use Rattle.roster.specs.declared.Reply.{Reply}
-use Rattle.roster.specs.Laws.Rulings.{policy_rows, policy_few}
+use Rattle.roster.proofs.Laws.Rulings.{policy_rows, policy_few}
 use Rattle.absences.specs.Tried.{Way}
-use Rattle.absences.specs.Laws.Editions as tables
+use Rattle.absences.proofs.Laws.Editions as tables
 use Rattle.accounts.specs.declared.Accounts.{Accounts}
 use Rattle.accounts.specs.Persons.{persons, merged}
-use Rattle.accounts.specs.Laws.Rulings.{ManyOrFew, many-or_few}
-use Rattle.accounts.specs.Laws.Merged.{persons_few}
+use Rattle.accounts.proofs.Laws.Rulings.{ManyOrFew, many-or_few}
+use Rattle.accounts.proofs.Laws.Merged.{persons_few}
 use Rattle.questions.specs.Asked.{PolicyAsked}
 use Rattle.questions.specs.Laws.Behind.{behind_both}
 use Rattle.questions.specs.Laws.Demands.{Admits}

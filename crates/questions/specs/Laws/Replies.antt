@@ -10,20 +10,20 @@ use Rattle.roster.specs.declared.Ruling.TheVariants as ruling
 use Rattle.roster.specs.declared.Reply.{Reply}
 use Rattle.roster.specs.Limits.{row_limit}
 use Rattle.roster.specs.Refusals.{refused_if}
-use Rattle.roster.specs.Laws.Rulings.{policy_rows, named-rows}
+use Rattle.roster.proofs.Laws.Rulings.{policy_rows, named-rows}
 use Rattle.crews.specs.Named.{NamedReply}
-use Rattle.crews.specs.Laws.Named.{named_same, named_agree}
-use Rattle.crews.specs.Laws.Allowed.{named_allowed}
+use Rattle.crews.proofs.Laws.Named.{named_same, named_agree}
+use Rattle.crews.proofs.Laws.Allowed.{named_allowed}
 use Rattle.absences.specs.Tried.{Way}
 use Rattle.absences.specs.Asked.{PolicyReply}
-use Rattle.absences.specs.Laws.Demands.{policy_same, policy_allowed}
-use Rattle.absences.specs.Laws.Same.{policy_agree}
+use Rattle.absences.proofs.Laws.Demands.{policy_same, policy_allowed}
+use Rattle.absences.proofs.Laws.Same.{policy_agree}
 use Rattle.accounts.specs.declared.Accounts.{Accounts}
 use Rattle.accounts.specs.Persons.{merged}
 use Rattle.accounts.specs.Meaning.{row_by_row, Different, Alike}
 use Rattle.accounts.specs.Refusals.{accounts_ruling}
-use Rattle.accounts.specs.Laws.Rulings.{ManyOrFew, many-or_few}
-use Rattle.accounts.specs.Laws.Merged.{own_table, renamed}
+use Rattle.accounts.proofs.Laws.Rulings.{ManyOrFew, many-or_few}
+use Rattle.accounts.proofs.Laws.Merged.{own_table, renamed}
 use Rattle.questions.specs.Asked.{Behind, PolicyAsked, NamedAsked}
 use Rattle.questions.specs.Replied.{policy_answer_of, named_answer_of}
 use Rattle.questions.specs.Laws.Behind.{behind_is, behind_same}

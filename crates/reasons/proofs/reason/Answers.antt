@@ -5,7 +5,7 @@ use Prim.Native.Nat.{◌^◌, ◌≤◌, ◌<◌}
 use native.Mathlib.Omega.{arith}
 use borrow.Author.Rules.{rules}
 use Rattle.sets.specs.Sets.{below_within}
-use Rattle.roster.specs.Laws.Rulings.{named_within}
+use Rattle.roster.proofs.Laws.Rulings.{named_within}
 use Rattle.reasons.specs.Reasons.{Scarce, Lowest, NoneIs}
 use Rattle.reasons.specs.Replied.{lowest_scarce}
 use Rattle.reasons.specs.Laws.Here.{lent_lowest}

@@ -10,7 +10,7 @@ use Rattle.roster.specs.declared.Reply.{Reply}
 use Rattle.accounts.specs.declared.Accounts.{Accounts}
 use Rattle.accounts.specs.declared.People.{People}
 use Rattle.accounts.specs.Persons.{merged}
-use Rattle.accounts.specs.Laws.Merged.{crews_of_persons, blocks_of_persons}
+use Rattle.accounts.proofs.Laws.Merged.{crews_of_persons, blocks_of_persons}
 use Rattle.questions.specs.Asked.{NamedAsked}
 use Rattle.questions.specs.Laws.Demands.{NamedTells, persons_admitted, named-told}
 use Rattle.reasons.specs.declared.Explanation.{Explanation}

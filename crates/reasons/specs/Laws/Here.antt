@@ -4,7 +4,8 @@ use Rattle.std.proofs.Common.{sym, ap, ◌∙◌, arith}
 use Rattle.std.proofs.Math.Path.{fun_ext}
 use Rattle.std.specs.Int.Bits.{bit_and}
 use Rattle.sets.specs.Arrays.{tabulate, at}
-use Rattle.sets.specs.Sets.{bit, Has, minus, ext_all, sub_of_has, and_in, in_and}
+use Rattle.sets.specs.Sets.{bit, Has, minus, ext_all, and_in, in_and}
+use Rattle.sets.proofs.Sets.{sub_of_has}
 use Rattle.roster.specs.declared.Table.{Table}
 use Rattle.roster.specs.Limits.{row_limit}
 use Rattle.roster.specs.Meaning.{held}
@@ -12,9 +13,9 @@ use Rattle.reasons.specs.Reasons.{holders_here}
 use Rattle.reasons.specs.Replied.{scarce_in, lowest_scarce}
 use Rattle.reasons.specs.Laws.Scarce.{holder_here}
 use Rattle.crews.specs.Filling.{holds_of, holders_of, present}
-use Rattle.crews.specs.Laws.Sound.{present_in, in_present}
-use Rattle.crews.specs.Laws.Fair.{work_agrees}
-use Rattle.crews.specs.Laws.Arrays.{lent_holds, lent_holders, holds_lt}
+use Rattle.crews.proofs.Laws.Sound.{present_in, in_present}
+use Rattle.crews.proofs.Laws.Fair.{work_agrees}
+use Rattle.crews.proofs.Laws.Arrays.{lent_holds, lent_holders, holds_lt}
 use Rattle.accounts.specs.Persons.{first}
 
 module _ (table : Table) (P A p : ℕ) (few : table.rows ≤ row_limit) where

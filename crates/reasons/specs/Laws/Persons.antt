@@ -2,13 +2,14 @@
 use Rattle.std.proofs.Common.{sym, subst, arith}
 use Rattle.std.specs.Prelude.{◌↔◌, List, ℕ, ◌≤◌, ◌<◌}
 use Rattle.std.specs.Int.Count.{ones}
-use Rattle.sets.specs.Sets.{Has, ext_all, sub_of_has, and_in, in_and}
+use Rattle.sets.specs.Sets.{Has, ext_all, and_in, in_and}
+use Rattle.sets.proofs.Sets.{sub_of_has}
 use Rattle.roster.specs.declared.Table.{Table}
 use Rattle.roster.specs.Meaning.{CrewList, Blocks}
 use Rattle.accounts.specs.declared.Accounts.{Accounts}
 use Rattle.accounts.specs.Persons.{persons, merged}
 use Rattle.accounts.specs.Meaning.{PersonCrews, PersonsBlock}
-use Rattle.accounts.specs.Laws.Merged.{every_row, holds_all_his, crews_of_persons, blocks_of_persons}
+use Rattle.accounts.proofs.Laws.Merged.{every_row, holds_all_his, crews_of_persons, blocks_of_persons}
 use Rattle.sets.specs.Arrays.{at}
 use Rattle.reasons.specs.declared.Explanation.{Explanation}
 use Rattle.reasons.specs.declared.Explanation.TheVariants as explanation

@@ -8,12 +8,12 @@ use Rattle.roster.specs.declared.Verdict.TheVariants.{Crews}
 use Rattle.roster.specs.declared.Reply.{Reply}
 use Rattle.roster.specs.Meaning.{CrewList, Blocks}
 use Rattle.roster.specs.Laws.Fewer.{blocks_more-crews}
-use Rattle.roster.specs.Laws.Rulings.{named_within, named-one}
+use Rattle.roster.proofs.Laws.Rulings.{named_within, named-one}
 use Rattle.crews.specs.Filling.{Outcome, filling}
 use Rattle.crews.specs.Named.{NamedReply}
-use Rattle.crews.specs.Laws.Exact.{Fair, finds_list, finds_none, decide}
-use Rattle.crews.specs.Laws.Named.{admitted_fair, named-crews}
-use Rattle.crews.specs.Laws.OneCrew.{one-crew-need}
+use Rattle.crews.proofs.Laws.Exact.{Fair, finds_list, finds_none, decide}
+use Rattle.crews.proofs.Laws.Named.{admitted_fair, named-crews}
+use Rattle.crews.proofs.Laws.OneCrew.{one-crew-need}
 use Rattle.reasons.specs.declared.Explanation.{Explanation}
 use Rattle.reasons.specs.declared.Explanation.TheVariants.{Scarce, NoCrew, Overlap, Nothing, Undecided, Refused}
 use Rattle.reasons.specs.Reasons.{NoneIs, Reason}

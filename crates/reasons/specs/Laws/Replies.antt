@@ -8,8 +8,8 @@ use Rattle.roster.specs.declared.Ruling.{Ruling}
 use Rattle.roster.specs.declared.Ruling.TheVariants as ruling
 use Rattle.roster.specs.Meaning.{CrewList, Blocks}
 use Rattle.crews.specs.Filling.{Outcome, filling}
-use Rattle.crews.specs.Laws.Exact.{Fair, list-found, blocks_none, decide}
-use Rattle.crews.specs.Laws.Named.{admitted_fair, ruled}
+use Rattle.crews.proofs.Laws.Exact.{Fair, list-found, blocks_none, decide}
+use Rattle.crews.proofs.Laws.Named.{admitted_fair, ruled}
 use Rattle.accounts.specs.declared.Accounts.{Accounts}
 use Rattle.accounts.specs.Persons.{persons, merged}
 use Rattle.questions.specs.Laws.Demands.{persons_ruling, persons_admitted}

@@ -3,11 +3,12 @@ use Rattle.std.specs.Prelude.{◌≡◌, refl, Bool, true, false, not, ◌&&◌,
 use Rattle.std.proofs.Common.{ap, ◌∙◌, arith}
 use Rattle.std.specs.Int.Bits.{bit_xor}
 use Rattle.std.specs.Int.Count.{ones}
-use Rattle.sets.specs.Sets.{bit, Has, Apart, bit_le, bit_below, bit-drop_other, ones-drop}
+use Rattle.sets.specs.Sets.{bit, Has, Apart, bit_le, bit_below}
+use Rattle.sets.proofs.Sets.{bit-drop_other, ones-drop}
 use Rattle.sets.specs.Members.{hasb}
 use Rattle.sets.specs.Sums.{to_n}
 use Rattle.sets.specs.Laws.Tests.{to_n-hasb}
-use Rattle.sets.specs.Laws.Build.{set_of-bit, set_of_lt}
+use Rattle.sets.proofs.Laws.Build.{set_of-bit, set_of_lt}
 use Rattle.roster.specs.declared.Table.{Table}
 use Rattle.roster.specs.Meaning.{held, Blocks}
 use Rattle.reasons.specs.Reasons.{holders_here, Scarce}

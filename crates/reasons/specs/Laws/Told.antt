@@ -4,13 +4,13 @@ use Rattle.std.proofs.Common.{sym, ap, ◌∙◌, inl, inr, arith}
 use Rattle.roster.specs.declared.Verdict.TheVariants.{No}
 use Rattle.roster.specs.declared.Reply.{Reply}
 use Rattle.absences.specs.Tried.{Way}
-use Rattle.absences.specs.Laws.Demands.{policy_exactly}
-use Rattle.absences.specs.Laws.Need.{blocker_need}
+use Rattle.absences.proofs.Laws.Demands.{policy_exactly}
+use Rattle.absences.proofs.Laws.Need.{blocker_need}
 use Rattle.accounts.specs.declared.Accounts.{Accounts}
 use Rattle.accounts.specs.Persons.{persons, merged}
 use Rattle.accounts.specs.Meaning.{PersonsBlock}
-use Rattle.accounts.specs.Laws.Merged.{crews_of_persons, blocks_of_persons}
-use Rattle.accounts.specs.Laws.Rulings.{ManyOrFew, many-or_few}
+use Rattle.accounts.proofs.Laws.Merged.{crews_of_persons, blocks_of_persons}
+use Rattle.accounts.proofs.Laws.Rulings.{ManyOrFew, many-or_few}
 use Rattle.questions.specs.Asked.{PolicyAsked, NamedAsked}
 use Rattle.questions.specs.Laws.Demands.{NamedTells, named-told, policy_told, admitted_persons}
 use Rattle.reasons.specs.declared.Explanation.{Explanation}

@@ -7,7 +7,7 @@ use Rattle.roster.specs.declared.Refusal.TheVariants.{Absence}
 use Rattle.roster.specs.declared.Ruling.TheVariants.{Admitted}
 use Rattle.roster.specs.Refusals.{refused_if, policy_ruling, named_ruling}
 use Rattle.roster.specs.declared.Ruling.{Ruling}
-use Rattle.roster.specs.Laws.Rulings.{or_else, named-after_policy}
+use Rattle.roster.proofs.Laws.Rulings.{or_else, named-after_policy}
 use Rattle.roster.proofs.named_ruling.Goals as goal
 
 -- what is refused, once the policy's own ruling is known

@@ -6,7 +6,8 @@ use Rattle.std.proofs.Common.{arith, pow_pos}
 use Rattle.std.proofs.Math.Pow.{ones_lt}
 use Rattle.std.specs.Int.Count.{ones, ones-ones}
 use Rattle.std.proofs.lemmas.Nat.{ones-le}
-use Rattle.sets.specs.Sets.{Has, Sub, Apart, bit_below, bit-full, fresh, with, with_lt, bit-or, ones-with}
+use Rattle.sets.specs.Sets.{Has, Sub, Apart, bit_below, bit-full, with, bit-or}
+use Rattle.sets.proofs.Sets.{fresh, with_lt, ones-with}
 use Rattle.roster.specs.declared.Table.{Table}
 use Rattle.roster.specs.Limits.{row_limit, size_limit}
 use Rattle.roster.specs.Meaning.{Covers, least_members, CrewList, Blocks, Holds}

@@ -2,7 +2,7 @@
 use Rattle.std.specs.Prelude.{◌≡◌, ℕ, List, length}
 use Rattle.std.proofs.Common.{sym, ap, subst, ⊎_elim, arith}
 use Rattle.book.specs.Layout.{Contents, Admitted}
-use Rattle.book.specs.Laws.Books.{Good, Refused, reply, good_layout}
+use Rattle.book.proofs.Laws.Books.{Good, Refused, reply, good_layout}
 use Rattle.book.specs.Parts.{contents_of}
 use Rattle.book.specs.Promises.{Bytes}
 use Rattle.book.specs.Reading.{form_of, starts_of}

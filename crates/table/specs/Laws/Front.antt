@@ -2,7 +2,7 @@
 use Rattle.std.specs.Prelude.{◌≡◌, ℕ, List, take}
 use Rattle.std.proofs.Common.{sym, ap, ◌∙◌, ⊎_elim, arith, take_all}
 use Rattle.book.specs.Reading.{form_of}
-use Rattle.book.specs.Laws.Books.{Good, Refused, reply}
+use Rattle.book.proofs.Laws.Books.{Good, Refused, reply}
 use Rattle.lines.specs.Sheet.{enough}
 use Rattle.lines.specs.Laws.Front.{sound_short, front_reply}
 use Rattle.table.specs.Shown.{shown_by, shown_of}

@@ -7,12 +7,12 @@ use Rattle.sets.specs.Arrays.{tabulate}
 use Rattle.sets.specs.Mask.{bit}
 use Rattle.roster.specs.Limits.{row_limit}
 use Rattle.roster.specs.Refusals.{policy_ruling}
-use Rattle.roster.specs.Laws.Rulings.{policy_within}
+use Rattle.roster.proofs.Laws.Rulings.{policy_within}
 use Rattle.roster.specs.declared.Policy.{Policy}
 use Rattle.book.specs.Layout.{Contents, form_has_persons, form_has_editions, permission_limit, policy_limit, Each, PolicyFits, Admitted}
-use Rattle.book.specs.Laws.Books.{good_layout, reply}
-use Rattle.book.specs.Laws.Books as books
-use Rattle.book.specs.Laws.Values.{each, each_both}
+use Rattle.book.proofs.Laws.Books.{good_layout, reply}
+use Rattle.book.proofs.Laws.Books as books
+use Rattle.book.proofs.Laws.Values.{each, each_both}
 use Rattle.book.specs.Parts.{contents_of}
 use Rattle.book.specs.Promises.{Bytes}
 use Rattle.book.specs.Reading.{form_of, starts_of}
@@ -21,7 +21,7 @@ use Rattle.book.specs.declared.Form.TheVariants.{Editions}
 use Rattle.book.specs.declared.Row.{Row}
 use Rattle.text.specs.Text.{quoted, comma, decimal_in, decimal, joined, marked}
 use Rattle.text.specs.Cut.{ended}
-use Rattle.text.specs.Laws.Decimal.{decimal-length}
+use Rattle.text.proofs.Laws.Decimal.{decimal-length}
 use Rattle.values.specs.Writing.{value_looks, first_of, fault_in}
 use Rattle.lines.specs.Laws.Fits.{total, marked-length, bad_short}
 use Rattle.table.specs.Table.{only_if, mark, marks, row_heading, row_cells, policy_heading, policy_cells, line_of, row_lines, policy_lines, table_text_of}

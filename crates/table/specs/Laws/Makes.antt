@@ -4,7 +4,7 @@ use Rattle.std.proofs.Common.{sym, ◌∙◌}
 use Rattle.book.specs.Layout.{LayoutOf}
 use Rattle.book.specs.Parts.{contents_of}
 use Rattle.book.specs.Promises.{Bytes}
-use Rattle.book.specs.Laws.Books.{good_layout}
+use Rattle.book.proofs.Laws.Books.{good_layout}
 use Rattle.table.specs.Making.{BookOf, IsMade}
 use Rattle.table.specs.Laws.Tells.{table_tells}
 

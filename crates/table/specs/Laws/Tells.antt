@@ -11,22 +11,23 @@ use Rattle.sets.specs.Laws.Arrays.{get_d_tabulate}
 use Rattle.sets.specs.Laws.Digits.{bit_le, ext}
 use Rattle.roster.specs.declared.Policy.{Policy}
 use Rattle.book.specs.Layout.{Contents, form_has_persons, form_has_editions, bytes_of, OwnEdition, Each, PolicyFits, Admitted}
-use Rattle.book.specs.Laws.Books.{good_layout}
+use Rattle.book.proofs.Laws.Books.{good_layout}
 use Rattle.book.specs.Parts.{contents_of}
 use Rattle.book.specs.Promises.{Bytes}
 use Rattle.book.specs.Reading.{read_of}
 use Rattle.book.specs.declared.Reading.TheVariants.{Good}
 use Rattle.book.specs.declared.Starts.{Starts}
-use Rattle.book.specs.Laws.Values.{RowFits, each-row-fits, each_both}
+use Rattle.book.specs.Laws.Values.{RowFits}
+use Rattle.book.proofs.Laws.Values.{each-row-fits, each_both}
 use Rattle.book.specs.declared.Form.{Form}
 use Rattle.book.specs.declared.Form.TheVariants.{Old, Persons, Editions}
 use Rattle.book.specs.declared.Row.{Row}
 use Rattle.text.specs.Text.{quoted, newline, comma, dash, digit, decimal, joined, marked}
 use Rattle.text.specs.Cut.{Every, Lacks, lines_of}
-use Rattle.text.specs.Laws.Decimal.{decimal-small, decimal_large}
+use Rattle.text.proofs.Laws.Decimal.{decimal-small, decimal_large}
 use Rattle.text.specs.Laws.Every.{every_none, every_cons, every_first, every_rest, every_map, map_same}
 use Rattle.text.specs.Laws.Marks.{over, lacks_over, lacks_none, lines_ended, joined_same, joined_lacks}
-use Rattle.text.specs.Laws.Numbers.{NoDigit, decimal_lacks, decimal_same}
+use Rattle.text.proofs.Laws.Numbers.{NoDigit, decimal_lacks, decimal_same}
 use Rattle.table.specs.Table.{only_if, mark, marks, row_heading, row_cells, policy_heading, policy_cells, line_of, row_lines, policy_lines, table_text_of}
 
 -- ---- what is in no cell: newlines, commas, dashes

@@ -4,7 +4,7 @@ use mathlib.Core.List.{[], ◌∷◌, ◌++◌}
 use Prim.Native.Nat.{ℕ, ◌/◌, ◌%◌, ◌≤◌, ◌<◌}
 use Rattle.text.specs.Text.{digit}
 use Rattle.text.specs.Text.{decimal as spelt}
-use Rattle.text.specs.Laws.Decimal.{decimal-small, decimal_large}
+use Rattle.text.proofs.Laws.Decimal.{decimal-small, decimal_large}
 use Rattle.text.specs.Laws.Appends.{◌then◌, read_as}
 use Rattle.text.proofs.+decimal.Goals as goal
 

@@ -2,14 +2,15 @@
 use Rattle.std.specs.Prelude.{◌≡◌, refl, false, ◌↔◌, List, ◌++◌, ℕ, ◌^◌, ◌≤◌, ◌<◌, length}
 use Rattle.std.proofs.Common.{sym, ap, ◌∙◌, lt_of_lt_of_le, arith, pow_mono, ltb-false}
 use Rattle.std.proofs.Math.Option.{none}
-use Rattle.roster.specs.Laws.Rulings.{inside, policy_within}
+use Rattle.roster.proofs.Laws.Rulings.{inside, policy_within}
 use Rattle.roster.specs.declared.Policy.{Policy}
 use Rattle.book.specs.Layout.{Contents, permission_limit, code_fields, row_fields, policy_fields, form_has_persons, form_has_editions, bytes_of, PolicyFits, Admitted}
 use Rattle.book.specs.Reading.{Kind, codes, rows_of, policies_of}
 use Rattle.book.specs.Laws.First.{not_amiss}
 use Rattle.book.specs.Laws.Sections.{Codec, Faultless}
-use Rattle.book.specs.Laws.Values.{code_codec, row_codec, policy_codec, each, RowFits, each-row-fits, codes_sound, rows_sound, policies_sound}
-use Rattle.book.specs.Laws.Books.{layout_good}
+use Rattle.book.specs.Laws.Values.{RowFits}
+use Rattle.book.proofs.Laws.Values.{code_codec, row_codec, policy_codec, each, each-row-fits, codes_sound, rows_sound, policies_sound}
+use Rattle.book.proofs.Laws.Books.{layout_good}
 use Rattle.book.specs.declared.Row.{Row}
 use Rattle.values.specs.Writing.{value_looks, section_in, first_of, fault_in}
 use Rattle.book.specs.Faults.{fault_of}

@@ -7,7 +7,7 @@ use mathlib.Core.List.{List, [], ◌∷◌, ◌++◌}
 use Rattle.book.specs.Layout.{Contents}
 use Rattle.book.specs.Faults.{fault_number, EntryNumber}
 use Rattle.book.specs.Reading.{Kind, amiss_if, codes, rows_of, policies_of}
-use Rattle.book.specs.Laws.Refused.{Told, told_if, told_code, told-row, told_policy}
+use Rattle.book.proofs.Laws.Refused.{Told, told_if, told_code, told-row, told_policy}
 use Rattle.book.specs.declared.Fault.{Fault}
 use Rattle.book.specs.declared.Amiss.{Amiss}
 use Rattle.book.specs.declared.Amiss.TheVariants.{Nothing, Field}

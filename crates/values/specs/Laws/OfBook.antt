@@ -8,7 +8,7 @@ use Rattle.book.specs.Layout.{Contents, form_has_persons, form_has_editions, per
 use Rattle.book.specs.Reading.{form_of, read_of}
 use Rattle.book.specs.Parts.{contents_of}
 use Rattle.book.specs.Promises.{Bytes}
-use Rattle.book.specs.Laws.Books.{good_layout}
+use Rattle.book.proofs.Laws.Books.{good_layout}
 use Rattle.book.specs.declared.Fault.{Fault}
 use Rattle.book.specs.declared.Reading.{Reading}
 use Rattle.book.specs.declared.Reading.TheVariants as read

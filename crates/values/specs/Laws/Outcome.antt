@@ -9,8 +9,8 @@ use Rattle.book.specs.Layout.{Contents, lead, bytes_of, LayoutOf}
 use Rattle.book.specs.Reading.{width, rows_of, policies_of, read_of}
 use Rattle.book.specs.Parts.{contents_of}
 use Rattle.book.specs.Promises.{Bytes, starts_for}
-use Rattle.book.specs.Laws.Books.{layout_good, layout_values, good_layout}
-use Rattle.book.specs.Laws.Longest.{layout_length, good_short}
+use Rattle.book.proofs.Laws.Books.{layout_good, layout_values, good_layout}
+use Rattle.book.proofs.Laws.Longest.{layout_length, good_short}
 use Rattle.book.specs.declared.Fault.{Fault}
 use Rattle.book.specs.declared.Reading.TheVariants as read
 use Rattle.book.specs.declared.Starts.{Starts}

@@ -4,7 +4,7 @@ use Rattle.std.specs.Prelude.{◌≡◌, refl, Bool, true, false, eqb, ltb}
 use Rattle.std.proofs.Common.{inl, inr, arith}
 use Rattle.roster.specs.Limits.{away_limit, crew_limit, size_limit, edition_limit}
 use Rattle.roster.specs.Refusals.{number_of, refused_if, outside, policy_ruling, own_ruling}
-use Rattle.roster.specs.Laws.Rulings.{policy_within}
+use Rattle.roster.proofs.Laws.Rulings.{policy_within}
 use Rattle.roster.specs.declared.Policy.{Policy}
 use Rattle.roster.specs.declared.Refusal.TheVariants.{Task, Away, Crews, Size, Edition}
 use Rattle.roster.specs.declared.Ruling.{Ruling}

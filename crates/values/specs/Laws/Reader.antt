@@ -13,8 +13,8 @@ use Rattle.book.specs.Layout.{Contents, Each, bytes_of, section, joined, code_wi
 use Rattle.book.specs.Reading.{Kind, cut_place, amiss_if, fault_if, placed, width, entry_at, prior, count_look, entry_look, in_turn, section_looks, past, form_of, front, listed_in, end_look, looks, looks_by, looks_from_rows, looks_from_policies, codes, rows_of, policies, policies_of, first_fault, starts_of, read_of}
 use Rattle.book.specs.Laws.Codec.{Fit, after, head_at, tail_at, fields_length, fields_read}
 use Rattle.book.specs.Laws.Sections.{Codec, bytes_for, Fits, joined_length, section_read}
-use Rattle.book.specs.Laws.Values.{code_codec, row_codec, policy_codec, each, each_both, code_fits, row_fits, edition_fits, own_edition}
-use Rattle.book.specs.Laws.Books.{rows_at, policies_at, by_lead, lead-front}
+use Rattle.book.proofs.Laws.Values.{code_codec, row_codec, policy_codec, each, each_both, code_fits, row_fits, edition_fits, own_edition}
+use Rattle.book.proofs.Laws.Books.{rows_at, policies_at, by_lead, lead-front}
 use Rattle.book.specs.declared.Form.{Form}
 use Rattle.book.specs.Faults.{fault_of}
 use Rattle.book.specs.declared.Fault.{Fault}

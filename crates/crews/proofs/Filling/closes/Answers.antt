@@ -4,7 +4,7 @@ use native.Mathlib.Omega.{arith}
 use lib.Count.{ones}
 use lib.Dec.{leb}
 use borrow.Author.Tests.{le-leb}
-use Rattle.crews.specs.Laws.Steps.{closes_lacks, closes_whole}
+use Rattle.crews.proofs.Laws.Steps.{closes_lacks, closes_whole}
 use Rattle.crews.proofs.Filling.closes.Goals as goal
 
 pub returns-then-missing-ne0 : goal.returns-then-missing-ne0

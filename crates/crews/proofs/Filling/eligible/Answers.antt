@@ -3,7 +3,7 @@ use mathlib.Core.Path.{sym, ap, ◌∙◌}
 use Prim.Native.Nat.{ℕ}
 use Rattle.sets.specs.Sets.{minus}
 use Rattle.roster.specs.Limits.{row_limit}
-use Rattle.crews.specs.Laws.Steps.{eligible_first, eligible_next}
+use Rattle.crews.proofs.Laws.Steps.{eligible_first, eligible_next}
 use Rattle.crews.proofs.Filling.eligible.Goals as goal
 
 pub returns-then-self-eq0 : goal.returns-then-self-eq0

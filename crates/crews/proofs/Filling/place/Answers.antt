@@ -3,7 +3,7 @@
 use mathlib.Core.Path.{◌≡◌, refl, sym, ◌∙◌}
 use Rattle.sets.specs.Sets.{shl_one}
 use Rattle.crews.specs.Filling.{place_of}
-use Rattle.crews.specs.Laws.Search.{from_first, from_next}
+use Rattle.crews.proofs.Laws.Search.{from_first, from_next}
 use Rattle.crews.proofs.Filling.place.Goals as goal
 use Rattle.crews.proofs.Filling.place.Goals.{then-self-eq0, else-self-eq0}
 

@@ -3,7 +3,7 @@ use mathlib.Core.Path.{sym, ap, ◌∙◌}
 use native.Mathlib.Omega.{arith}
 use Rattle.crews.specs.declared.Filling.{Filling}
 use Rattle.crews.specs.Filling.{close_of}
-use Rattle.crews.specs.Laws.Steps.{shut, short}
+use Rattle.crews.proofs.Laws.Steps.{shut, short}
 use Rattle.crews.proofs.Filling.settled.Goals as goal
 
 pub close-requires : goal.close-requires

@@ -1,7 +1,7 @@
 -- By whether the crew can be closed. Assumes nothing.
 use mathlib.Core.Path.{sym, ap, ◌∙◌}
 use lib.Dec.{leb}
-use Rattle.crews.specs.Laws.Steps.{covering, lacking}
+use Rattle.crews.proofs.Laws.Steps.{covering, lacking}
 use Rattle.crews.proofs.Filling.stuck.Goals as goal
 
 pub returns-then-closes : goal.returns-then-closes

@@ -6,7 +6,8 @@ use native.Mathlib.Omega.{arith}
 use lib.Bits.{bit_xor}
 use lib.Count.{ones}
 use lib.ListN.{get_or}
-use Rattle.sets.specs.Sets.{Least, trailing_least, drop_lt, ones-drop}
+use Rattle.sets.specs.Sets.{Least, trailing_least}
+use Rattle.sets.proofs.Sets.{drop_lt, ones-drop}
 use Rattle.text.specs.Text.{decimal, marked}
 use Rattle.lines.specs.Lines.{names, between_members}
 use Rattle.text.specs.Laws.Appends.{SoFar, step, with_rest, finish}

@@ -1,6 +1,6 @@
 -- There are as many rows as places are occupied. Assumes nothing.
 use native.Mathlib.Omega.{arith}
-use Rattle.sets.specs.Laws.Members.{length-members}
+use Rattle.sets.proofs.Laws.Members.{length-members}
 use Rattle.live.specs.Changes.{table_of}
 use Rattle.live.proofs.Roster.table.Goals as goal
 

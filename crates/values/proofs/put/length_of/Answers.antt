@@ -2,7 +2,7 @@
 use mathlib.Core.Path.{◌≡◌, ◌∙◌}
 use Prim.Native.Nat.{ℕ, ◌+◌, ◌*◌, ◌≤◌}
 use native.Mathlib.Omega.{arith}
-use Rattle.book.specs.Laws.Prefix.{near_front, near_row, near_policy}
+use Rattle.book.proofs.Laws.Prefix.{near_front, near_row, near_policy}
 use Rattle.book.specs.declared.Section.TheVariants.{Permissions, Rows, Policies}
 use Rattle.values.proofs.Puts.{book_length}
 use Rattle.values.proofs.put.length_of.Goals as goal

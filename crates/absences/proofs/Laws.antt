@@ -1,0 +1,13 @@
+pub mod Rows
+pub mod OneSize
+pub mod Open
+pub mod Listed
+pub mod Only
+pub mod Weighed
+pub mod Decided
+pub mod Need
+pub mod Demands
+pub mod Before
+pub mod InOrder
+pub mod Same
+pub mod Editions

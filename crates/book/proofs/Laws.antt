@@ -1,0 +1,9 @@
+pub mod Books
+pub mod Refused
+pub mod Fields
+pub mod Parts
+pub mod View
+pub mod Longest
+pub mod Prefix
+pub mod Old
+pub mod Values
