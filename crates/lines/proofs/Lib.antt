@@ -1,3 +1,4 @@
 -- What the proofs of the functions share.
 pub mod Walk
 pub mod Verdicts
+pub mod BookB

@@ -5,7 +5,7 @@ use Rattle.book.specs.Cases.{book_b, new_b}
 use Rattle.text.specs.Text.{quoted}
 use Rattle.text.specs.Cut.{longer, lines_of}
 use Rattle.lines.specs.Sheet.{sheet_of}
-use Rattle.lines.specs.BookB.{sheet_b, sheet_new_b}
+use Rattle.lines.proofs.BookB.{sheet_b, sheet_new_b}
 
 pub lines_b : lines_of (sheet_of book_b) ≡ quoted "0 yes 8 101/102,103" ∷ quoted "1 no 11 101,104" ∷ quoted "2 no 6 -" ∷ []
 unfolding lines_of longer

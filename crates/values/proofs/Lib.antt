@@ -1,3 +1,4 @@
 pub mod Looks
 pub mod Parts
 pub mod Puts
+pub mod Laws

@@ -4,7 +4,6 @@ pub mod Reader
 pub mod Wide
 pub mod Admitted
 pub mod Outcome
-pub mod OfBook
 pub mod Numbers
 -- what that stands on
 pub mod First

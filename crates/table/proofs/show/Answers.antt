@@ -14,12 +14,12 @@ use Rattle.text.specs.Laws.Appends.{read_as, all_stand, all_past}
 use Rattle.lines.specs.Lines.{bad_line}
 use Rattle.values.specs.Values.{contents_for, values_of}
 use Rattle.values.specs.Inner.Looks.{Counted}
-use Rattle.values.specs.Laws.OfBook.{values_of_good}
+use Rattle.values.proofs.Laws.OfBook.{values_of_good}
 use Rattle.values.specs.declared.Values.{Values}
 use Rattle.table.specs.Table.{table_text_of}
 use Rattle.table.specs.Shown.{shown_by, shown_of, shown_as, longest, Shows}
 use Rattle.table.specs.Laws.Counted.{book_counted}
-use Rattle.table.specs.Laws.Length.{shown-fits}
+use Rattle.table.proofs.Laws.Length.{shown-fits}
 use Rattle.table.proofs.show.Goals as goal
 use Rattle.table.proofs.show.Goals.{After-shared_slice_known-1}
 

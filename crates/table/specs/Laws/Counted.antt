@@ -11,7 +11,7 @@ use Rattle.book.specs.declared.Section.TheVariants.{Permissions, Rows, Policies}
 use Rattle.values.specs.Values.{contents_for, values_for, no_values, values_of}
 use Rattle.values.specs.Inner.Looks.{Counted}
 use Rattle.values.specs.Laws.Meant.{counted}
-use Rattle.values.specs.Laws.OfBook.{values_of_good, values_of_refused}
+use Rattle.values.proofs.Laws.OfBook.{values_of_good, values_of_refused}
 use Rattle.values.specs.declared.Values.{Values}
 
 admitted_counted : (v : Values) (c : Contents) → contents_for v ≡ c → Admitted c → Counted v

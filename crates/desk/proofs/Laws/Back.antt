@@ -15,7 +15,7 @@ use Rattle.book.specs.declared.Form.{Form}
 use Rattle.book.specs.declared.Form.TheVariants.{Old, Persons, Editions}
 use Rattle.book.specs.declared.Row.{Row}
 use Rattle.values.specs.Values.{nobody, contents_for, values_for}
-use Rattle.values.specs.Laws.OfBook.{values_for_lem}
+use Rattle.values.proofs.Laws.OfBook.{values_for_lem}
 use Rattle.live.specs.Plain.{Somebody, Plain}
 use Rattle.live.specs.Agrees.{Stands, Agrees}
 use Rattle.live.specs.Laws.Gathering.{map_at}
@@ -23,7 +23,7 @@ use Rattle.live.specs.Laws.Twice.{Once}
 use Rattle.live.specs.declared.Roster.{Roster}
 use Rattle.desk.specs.Filled.{seated}
 use Rattle.desk.specs.Back.{own_row, form_back, places_by, rows_back, given_back}
-use Rattle.desk.specs.Laws.Order.{Rises, Strict, Distinct, order_same, order_strict, places_many}
+use Rattle.desk.proofs.Laws.Order.{Rises, Strict, Distinct, order_same, order_strict, places_many}
 use Rattle.desk.specs.Laws.Seated.{nth, first_places, first-fit, occupied_is, staff_at, held_at}
 
 -- ---- any roster in which nobody stands twice

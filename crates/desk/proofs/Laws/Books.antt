@@ -48,7 +48,7 @@ use Rattle.desk.specs.Filled.{seated_by, seated, plain_rows, filled_from}
 use Rattle.desk.specs.Back.{own_row, form_back, rows_back, given_back, in_back_form}
 use Rattle.desk.specs.Laws.Taken.{filled_shared, filled_taken, values_good, shares_none}
 use Rattle.desk.specs.Laws.Seated.{column_fit, seated_agrees, seated_once, seated_table}
-use Rattle.desk.specs.Laws.Back.{back_of, back_ascends, back_admitted, back_contents, rows_back_lem}
+use Rattle.desk.proofs.Laws.Back.{back_of, back_ascends, back_admitted, back_contents, rows_back_lem}
 use Rattle.desk.specs.declared.Filled.{Filled}
 use Rattle.desk.specs.declared.Intake.TheVariants as intake
 

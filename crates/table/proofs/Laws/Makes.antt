@@ -6,7 +6,7 @@ use Rattle.book.specs.Parts.{contents_of}
 use Rattle.book.specs.Promises.{Bytes}
 use Rattle.book.proofs.Laws.Books.{good_layout}
 use Rattle.table.specs.Making.{BookOf, IsMade}
-use Rattle.table.specs.Laws.Tells.{table_tells}
+use Rattle.table.proofs.Laws.Tells.{table_tells}
 
 -- two books of one text are one book, byte for byte
 pub make_same : (text a b : List ℕ) → Bytes a → Bytes b → BookOf text a → BookOf text b → a ≡ b

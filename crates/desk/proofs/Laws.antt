@@ -1,0 +1,4 @@
+pub mod Books
+pub mod Back
+pub mod Least
+pub mod Order
