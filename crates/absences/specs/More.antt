@@ -1,4 +1,4 @@
--- A second table beside that of `Examples`, and one fact too: questions that another order of ranks, of sizes or of equal rows, another rule of
+-- A second table beside that of `Examples`: questions that another order of ranks, of sizes or of equal rows, another rule of
 -- skipping or of filling, another unit, limit or order of refusals would answer otherwise. The replies were worked out from 01's words, apart from
 -- the definitions.
 use Rattle.std.specs.Prelude.{◌≡◌, refl, List, [], ◌∷◌, ◌++◌, ℕ, replicate}

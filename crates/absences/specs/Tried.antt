@@ -1,5 +1,5 @@
 -- 01, "Order of absences" and "Units": the absences that each search tries, in order, and what trying them costs. Nothing here is proved:
--- these are definitions, and they run. That the lists are the right ones is shown in Laws.
+-- these are definitions, and they run. That the lists are the right ones is shown in proofs/Laws.
 use Rattle.std.specs.Prelude.{Bool, true, false, List, [], ◌∷◌, ◌++◌, ℕ, zero, suc, ◌+◌, min, eqb}
 use Rattle.std.specs.Int.Bits.{bit_and}
 use Rattle.sets.specs.Members.{set_of}

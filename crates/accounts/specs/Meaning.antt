@@ -1,5 +1,5 @@
 -- What is asked of persons, said of their accounts: a reader who believes this page needs no word of how persons are merged (`Laws/Merged` and
--- `Laws/Accounts` show that the merged table says the same). Nothing here is proved: these are definitions.
+-- `Laws/Accounts` of proofs/ show that the merged table says the same). Nothing here is proved: these are definitions.
 use Rattle.std.specs.Prelude.{◌≡◌, ◌↔◌, ◌≢◌, List, ℕ, ◌*◌, ◌^◌, ◌≤◌, ◌<◌, length, get_or}
 use Rattle.std.specs.Int.Count.{ones}
 use Rattle.sets.specs.Sets.{bit, Has, Apart}

@@ -1,4 +1,4 @@
--- 01's own rule of places, as it stood before request 05: "the place of the count or entry concerned". Kept so that `Laws/Fields` can say that no
+-- 01's own rule of places, as it stood before request 05: "the place of the count or entry concerned". Kept so that `proofs/Laws/Fields` can say that no
 -- number moved, and which places did not. Nothing here is proved: these are definitions, and they run.
 use Rattle.std.specs.Prelude.{◌≡◌, ◌⊎◌, List, [], ◌∷◌, ◌++◌, ℕ, ◌+◌, ◌≤◌, ltb, length}
 use Rattle.book.specs.Faults.{fault_number}

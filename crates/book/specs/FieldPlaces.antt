@@ -1,4 +1,4 @@
--- Request 05, "Point at the field": the field that each fault speaks of, and where 11 is told. `field_place_lem` of Laws/Fields says that a refused book's
+-- Request 05, "Point at the field": the field that each fault speaks of, and where 11 is told. `field_place_lem` of proofs/Laws/Fields says that a refused book's
 -- place is so. Nothing here is proved: these are definitions.
 use Rattle.std.specs.Prelude.{◌≡◌, ◌⊎◌, List, [], ◌∷◌, ℕ, suc, ◌+◌, ◌*◌, ◌≤◌, ◌<◌, length}
 use Rattle.book.specs.Layout.{form_has_persons}

@@ -1,5 +1,5 @@
 -- 01, "The roster book", as it stood before there were forms: no leading byte, and rows of a staff number and holdings; and the book of request 04,
--- as it stood before policies had editions. Kept so that `Laws/Old` can say that older books are still read so. Nothing here is proved: these are
+-- as it stood before policies had editions. Kept so that `proofs/Laws/Old` can say that older books are still read so. Nothing here is proved: these are
 -- definitions, and they run.
 use Rattle.std.specs.Prelude.{true, false, List, [], ◌∷◌, ◌++◌, ℕ, eqb, ltb, get_or}
 use Rattle.std.proofs.Math.Option.{Option, some, none}

@@ -1,5 +1,5 @@
 -- Lines by running the definitions: each verdict, numbers of several digits, the first and the last row, crews of one and of several members, eight
--- crews, everyone, and no set. One fact: a change of a definition that can be seen in a line is seen here. (Whole sheets: specs/BookB.antt.)
+-- crews, everyone, and no set. One fact: a change of a definition that can be seen in a line is seen here. (Whole sheets: proofs/BookB.antt.)
 use Rattle.std.specs.Prelude.{◌≡◌, refl, List, [], ◌∷◌, ◌++◌, map, ℕ, ◌+◌, ◌-◌, ◌^◌}
 use Rattle.sets.specs.Arrays.{tabulate}
 use Rattle.sets.specs.Members.{cons?, members}

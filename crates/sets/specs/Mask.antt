@@ -1,5 +1,6 @@
 -- A mask is a set of small numbers: i is a member of m where `bit m i` is 1. These are the definitions, and nothing is proved here. Membership is a
--- number, 0 or 1, so that `omega arith` reasons about sets. The laws stand in Laws/; `Sets` passes on the definitions and the laws together.
+-- number, 0 or 1, so that `omega arith` reasons about sets. The laws stand in Laws/ here and below proofs/; `Sets` passes on the definitions and
+-- the laws of its folder together.
 use Rattle.std.specs.Prelude.{◌≡◌, Bool, ℕ, ◌+◌, ◌-◌, ◌/◌, ◌%◌, ◌^◌, ◌≤◌, ◌<◌, eqb}
 use Rattle.std.specs.Int.Bits.{bit_and, bit_or, bit_xor}
 

@@ -1,5 +1,5 @@
 // A mask is a set: bit i of the mask says whether i is a member. What sets are stands in specs/Mask.antt and specs/Members.antt, the laws of
-// them in specs/Laws/; here are the few functions that the crates above call.
+// them in specs/Laws/ and proofs/Laws/; here are the few functions that the crates above call.
 #![tactic(auto)]
 
 ghost use Rattle.std.specs.Prelude.{◌≡◌, ◌-◌, ◌^◌, min};

@@ -1,5 +1,5 @@
 -- Who has to be absent with whom, and which ranks are open: not decided yet, and of a row that no row passed over outweighs. Nothing here is
--- proved: these are definitions. That the list of absences goes by the open ranks alone is shown in Laws/Open.
+-- proved: these are definitions. That the list of absences goes by the open ranks alone is shown in proofs/Laws/Open.
 use Rattle.std.specs.Prelude.{ℕ, ◌≤◌, ◌<◌}
 use Rattle.sets.specs.Members.{set_of}
 use Rattle.sets.specs.Sets.{Has}
