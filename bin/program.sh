@@ -20,16 +20,17 @@ find_kit() {
     [ "$found" = "$proved_with" ] || printf '%s: the kit is %s; the project is proved with %s\n' "$script" "$found" "$proved_with" >&2
 }
 
-# The program is as new as the last of the sources that crates.txt and crates/ have.
+# The program is as new as the last of the sources that crates.txt and crates/ have: the marker is made after it. `rt run` proves and builds it, and
+# then runs it, here on no input.
 build() { # NAME
-    built=$root/target/bin/$1.built
-    [ -x "$root/target/bin/$1" ] && [ -f "$built" ] \
+    built=$root/target/built/$1
+    [ -x "$root/crates/$1/out/$1" ] && [ -f "$built" ] \
         && [ -z "$(find "$root/crates.txt" "$root"/crates/*/src "$root"/crates/*/specs "$root"/crates/*/proofs -newer "$built" 2>/dev/null | head -n 1)" ] \
         && return
     printf '%s: proving and building the program; this takes minutes, once\n' "$script" >&2
-    mkdir -p "$root/target/log"
+    mkdir -p "$root/target/log" "$root/target/built"
     log=$root/target/log/$1.build
-    (cd "$root" && "$kit/bin/rt" check "$1") >"$log" 2>&1 </dev/null || { tail -n 20 "$log" >&2; die "the program could not be proved and built; $log has it all"; }
+    (cd "$root/crates/$1" && "$kit/bin/rt" run) >"$log" 2>&1 </dev/null || { tail -n 20 "$log" >&2; die "the program could not be proved and built; $log has it all"; }
     : >"$built"
 }
 
@@ -57,15 +58,13 @@ copy_book() {
 
 # Runs the program on standard input, with the arguments if there are any. Status 1 if it complains or does not end by itself: a program has no status
 # of its own, and what it complains of goes to standard error, where it says nothing else. It is a program for x86-64 and runs under the kit's loader
-# and C library; on another processor the kit has an emulator beside its compiler.
+# and C library.
 run() { # NAME ARGUMENT..
-    program=$root/target/bin/$1
+    program=$root/crates/$1/out/$1
     shift
-    tools=$kit/on/$(uname -m)/toolchain
-    loader=$tools/lib/ld-linux-x86-64.so.2 emulator=$tools/bin/qemu-x86_64
-    [ -x "$emulator" ] || emulator=''
+    libraries=$kit/toolchain/lib
     status=0
-    { complaint=$(${emulator:+"$emulator"} "$loader" --library-path "$tools/lib" "$program" "$@" 2>&1 >&3 3>&-) || status=1; } 3>&1
+    { complaint=$("$libraries/ld-linux-x86-64.so.2" --library-path "$libraries" "$program" "$@" 2>&1 >&3 3>&-) || status=1; } 3>&1
     [ -z "$complaint" ] || { status=1; printf '%s\n' "$complaint" >&2 || :; }
     return "$status"
 }

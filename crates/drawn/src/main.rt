@@ -2,6 +2,7 @@
 // has to be the same, byte by byte. Of each way to save a table it prints how many books were compared and how many differ, which has to be none;
 // then of some that are compared with a wrong book, which each way has to find.
 #![tactic(auto)]
+
 mod draw;
 mod saved;
 

@@ -164,12 +164,7 @@ fn tally_of(rt: &impl Files, text: &[u8], at: usize) -> Tally {
 }
 
 // "NAME: N compared, M differ"; where some differ, the first of them and what came.
-fn show(
-    rt: &(impl Files + Print),
-    text: &[u8],
-    name: usize,
-    tally: Tally,
-) -> io::Result<()> {
+fn show(rt: &(impl Files + Print), text: &[u8], name: usize, tally: Tally) -> io::Result<()> {
     let compared = tally.compared;
     let differ = tally.differ;
     rt.write_all(part(text, name, line_end(text, name)))?;

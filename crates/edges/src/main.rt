@@ -3,6 +3,7 @@
 // each group of cases it prints how many comparisons were made and how many differ, which has to be none; of what is wrong on purpose (planted.*) all
 // differ, and of those the first is shown as any that differs would be.
 #![tactic(auto)]
+
 mod asked;
 mod books;
 mod cases;

@@ -230,8 +230,7 @@ pub(crate) fn writes(rt: &impl Files, text: &[u8], at: usize) -> Line {
 // Whether this is the book, with nothing touched behind it.
 fn is_book(book: Draft, length: usize, bytes: [u8; ROOM]) -> bool {
     let wanted = book.bytes;
-    front(&bytes, length) == front(&wanted, book.length)
-        && touched(bytes, length) == ROOM
+    front(&bytes, length) == front(&wanted, book.length) && touched(bytes, length) == ROOM
 }
 
 // A book read and written again, where there is room for more: its length if the bytes are the same, and else what came.

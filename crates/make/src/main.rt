@@ -2,6 +2,7 @@
 // line on standard error, which says what is wrong with the table and where. Which books are made of which tables is said in `table`, and which bytes
 // go to which stream in specs/Said; the words are this program's and no part of that.
 #![tactic(auto)]
+
 mod words;
 
 ghost use Rattle.std.specs.Prelude.{◌≤◌, length};

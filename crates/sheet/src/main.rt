@@ -2,6 +2,7 @@
 // on standard error that says so. All that can be right or wrong of the sheet is said in `lines`, what a read's answer means in `input`, and which
 // bytes go to which stream in specs/Said. `main` does just that.
 #![tactic(auto)]
+
 ghost use Rattle.std.specs.Prelude.{◌≤◌, length};
 ghost use Rattle.lines.specs.Sheet.{longest};
 ghost use Rattle.input.specs.Input.{Settled};

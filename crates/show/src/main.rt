@@ -2,6 +2,7 @@
 // the table cannot be written, a line on standard error says so. All that can be right or wrong of the table is said in `table`, and which bytes go to
 // which stream in specs/Said.
 #![tactic(auto)]
+
 ghost use Rattle.std.specs.Prelude.{◌≤◌, length};
 ghost use Rattle.table.specs.Shown.{longest};
 ghost use Rattle.input.specs.Input.{Settled};

@@ -10,6 +10,7 @@ use crate::shown::show_name;
 use crate::{compare, family, known, listed};
 use live::{Outcome, Roster, Told};
 use roster::{Policy, Reply};
+use std::io;
 
 // The kinds of comparison.
 const ANSWERS: usize = 0;
@@ -327,31 +328,31 @@ fn planted() -> Tally {
 }
 
 // "NAME: N compared, M differ", and the number of the call that differed first.
-fn show(before: &[u8], kind: usize, counted: Kind) {
-    io::write_all(1, before);
+fn show(rt: &impl Print, before: &str, kind: usize, counted: Kind) -> io::Result<()> {
+    let compared = counted.compared;
+    let differ = counted.differ;
+    let first = counted.first;
+    print!(rt; "{before}")?;
     show_name(
+        rt,
         b"answers of a live roster|holdings and sets of a live roster|policies asked of a live roster|named absences asked of a live roster",
         kind,
-    );
-    io::write_all(1, b": ");
-    io::print_decimal(1, counted.compared);
-    io::write_all(1, b" compared, ");
-    io::print_decimal(1, counted.differ);
-    io::write_all(1, b" differ\n");
-    if counted.differ != 0 {
-        io::write_all(1, b"  first: call ");
-        io::print_decimal(1, counted.first as u64);
-        io::write_all(1, b"\n");
+    )?;
+    println!(rt; ": {compared} compared, {differ} differ")?;
+    if differ != 0 {
+        println!(rt; "  first: call {first}")?;
     }
+    Ok(())
 }
 
-fn show_tally(before: &[u8], tally: Tally) {
+fn show_tally(rt: &impl Print, before: &str, tally: Tally) -> io::Result<()> {
     for kind in 0..KINDS {
-        show(before, kind, tally.kinds[kind]);
+        show(rt, before, kind, tally.kinds[kind])?;
     }
+    Ok(())
 }
 
-pub(crate) fn show_all() {
-    show_tally(b"", tried());
-    show_tally(b"planted ", planted());
+pub(crate) fn show_all(rt: &impl Print) -> io::Result<()> {
+    show_tally(rt, "", tried())?;
+    show_tally(rt, "planted ", planted())
 }

@@ -2,7 +2,6 @@
 use crate::known;
 use crate::known::{LISTED, Wanted};
 use crate::question::Question;
-use crate::shown::show_difference;
 use reasons::{Explained, Explanation};
 use roster::{Reply, Verdict};
 
@@ -64,8 +63,16 @@ pub const NONE: Kind = Kind {
     first: 0,
 };
 
+// A difference: the question, what was wanted and what came.
+#[derive(Clone, Copy)]
+pub struct Difference {
+    pub question: Question,
+    pub wanted: Wanted,
+    pub came: Wanted,
+}
+
 // The comparisons of each kind, and how many replies had each verdict. `table` is the one being tried; the first difference of the kind `shown` is
-// written to standard output.
+// kept, to be written to standard output.
 #[derive(Clone, Copy)]
 pub struct Counts {
     pub kinds: [Kind; KINDS],
@@ -140,10 +147,21 @@ impl Counts {
         }
     }
 
-    // Shows the difference if it is the first of the kind that is to be shown.
-    fn told(self, before: Counts, question: Question, wanted: Wanted, came: Wanted) -> Counts {
+    // Keeps the difference if it is the first of the kind that is to be shown.
+    fn told(
+        self,
+        first: &mut Option<Difference>,
+        before: Counts,
+        question: Question,
+        wanted: Wanted,
+        came: Wanted,
+    ) -> Counts {
         if before.of(self.shown).differ == 0 && self.of(self.shown).differ != 0 {
-            show_difference(question, wanted, came);
+            *first = Some(Difference {
+                question: question,
+                wanted: wanted,
+                came: came,
+            });
         }
         self
     }
@@ -201,7 +219,13 @@ pub(crate) fn same(a: Wanted, b: Wanted) -> bool {
 }
 
 // A policy question's reply, part by part.
-pub(crate) fn policy(counts: Counts, question: Question, wanted: Wanted, reply: Reply) -> Counts {
+pub(crate) fn policy(
+    first: &mut Option<Difference>,
+    counts: Counts,
+    question: Question,
+    wanted: Wanted,
+    reply: Reply,
+) -> Counts {
     let told = told(reply);
     let crews = told.crews;
     let right = wanted.crews;
@@ -211,53 +235,83 @@ pub(crate) fn policy(counts: Counts, question: Question, wanted: Wanted, reply: 
         .noted(BLOCKER, told.blocker == wanted.blocker)
         .noted(CREWS, same_crews(crews, right))
         .noted(UNITS, told.units == wanted.units)
-        .told(counts, question, wanted, told)
+        .told(first, counts, question, wanted, told)
 }
 
 // A named absence's reply, whole.
-pub(crate) fn named(counts: Counts, question: Question, wanted: Wanted, reply: Reply) -> Counts {
+pub(crate) fn named(
+    first: &mut Option<Difference>,
+    counts: Counts,
+    question: Question,
+    wanted: Wanted,
+    reply: Reply,
+) -> Counts {
     let told = told(reply);
     counts
         .saw(told.verdict)
         .noted(NAMED, same(told, wanted))
-        .told(counts, question, wanted, told)
+        .told(first, counts, question, wanted, told)
 }
 
 // The reply of the search that skips, held against that of the full search.
-pub(crate) fn both(counts: Counts, question: Question, skipping: Reply, full: Reply) -> Counts {
+pub(crate) fn both(
+    first: &mut Option<Difference>,
+    counts: Counts,
+    question: Question,
+    skipping: Reply,
+    full: Reply,
+) -> Counts {
     let wanted = told(full);
     let came = told(skipping);
     counts
         .noted(BOTH, same_answer(came, wanted))
         .noted(NEED, came.units <= wanted.units)
-        .told(counts, question, wanted, came)
+        .told(first, counts, question, wanted, came)
 }
 
 // The reply within the question's allowance, whole.
-pub(crate) fn allowed(counts: Counts, question: Question, wanted: Wanted, reply: Reply) -> Counts {
+pub(crate) fn allowed(
+    first: &mut Option<Difference>,
+    counts: Counts,
+    question: Question,
+    wanted: Wanted,
+    reply: Reply,
+) -> Counts {
     let told = told(reply);
     let right = wanted.within(question.allowance);
     counts
         .saw(told.verdict)
         .noted(ALLOWANCE, same(told, right))
-        .told(counts, question, right, told)
+        .told(first, counts, question, right, told)
 }
 
 // Whether filling found a list, held against what trying everything says.
-pub(crate) fn filling(counts: Counts, question: Question, wanted: Wanted, found: bool) -> Counts {
+pub(crate) fn filling(
+    first: &mut Option<Difference>,
+    counts: Counts,
+    question: Question,
+    wanted: Wanted,
+    found: bool,
+) -> Counts {
     let verdict = if found { known::CREWS } else { known::NONE };
     counts
         .noted(FILLING, verdict == wanted.verdict)
-        .told(counts, question, wanted, wanted.but(verdict))
+        .told(first, counts, question, wanted, wanted.but(verdict))
 }
 
 // The reply for an absence, held against that of the rule before: the same list, with no more placements.
-pub(crate) fn before(counts: Counts, question: Question, wanted: Wanted, reply: Reply) -> Counts {
+pub(crate) fn before(
+    first: &mut Option<Difference>,
+    counts: Counts,
+    question: Question,
+    wanted: Wanted,
+    reply: Reply,
+) -> Counts {
     let came = told(reply);
     counts
         .noted(LIST, same_answer(came, wanted))
         .noted(PLACEMENTS, came.units <= wanted.units)
-        .told(counts, question, wanted, came)
+        .told(first, counts, question, wanted, came)
 }
 
 fn reason_code(why: Explanation) -> usize {
@@ -299,16 +353,23 @@ fn explanation(explained: Explained) -> Wanted {
 }
 
 // Why an absence blocks, whole.
-pub(crate) fn why(counts: Counts, question: Question, wanted: Wanted, came: Explained) -> Counts {
+pub(crate) fn why(
+    first: &mut Option<Difference>,
+    counts: Counts,
+    question: Question,
+    wanted: Wanted,
+    came: Explained,
+) -> Counts {
     let told = explanation(came);
     counts
         .saw(told.verdict)
         .noted(REASON, same(told, wanted))
-        .told(counts, question, wanted, told)
+        .told(first, counts, question, wanted, told)
 }
 
 // The same within the question's allowance.
 pub(crate) fn why_allowed(
+    first: &mut Option<Difference>,
     counts: Counts,
     question: Question,
     wanted: Wanted,
@@ -319,5 +380,5 @@ pub(crate) fn why_allowed(
     counts
         .saw(told.verdict)
         .noted(REASON_ALLOWANCE, same(told, right))
-        .told(counts, question, right, told)
+        .told(first, counts, question, right, told)
 }

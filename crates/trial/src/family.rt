@@ -1,7 +1,7 @@
 // The questions that are asked, and the tables they are asked about.
 ghost use Rattle.std.specs.Prelude.{◌<◌};
 
-use crate::compare::Counts;
+use crate::compare::{Counts, Difference};
 use crate::known::{Known, SETS, Wanted};
 use crate::persons::Staff;
 use crate::plain::{Duty, PERMISSIONS, ROWS};
@@ -100,27 +100,57 @@ pub(crate) fn asked_of(staff: Staff, spread: bool, noise: u32) -> Asked {
 }
 
 // The question within an allowance.
-fn try_within(counts: Counts, question: Question, wanted: Wanted, allowance: u32) -> Counts {
+fn try_within(
+    first: &mut Option<Difference>,
+    counts: Counts,
+    question: Question,
+    wanted: Wanted,
+    allowance: u32,
+) -> Counts {
     let narrowed = question.within(allowance);
-    compare::allowed(counts, narrowed, wanted, narrowed.reply())
+    compare::allowed(first, counts, narrowed, wanted, narrowed.reply())
 }
 
 // One policy question of one search: with an ample allowance, with the need, and with one unit less.
-fn try_search(counts: Counts, question: Question, wanted: Wanted) -> Counts {
+fn try_search(
+    first: &mut Option<Difference>,
+    counts: Counts,
+    question: Question,
+    wanted: Wanted,
+) -> Counts {
     let need = wanted.units;
-    let ample = compare::policy(counts, question, wanted, question.reply());
-    let exact = try_within(ample, question, wanted, need);
-    try_within(exact, question, wanted, std::num::wrapping_sub_u32(need, 1))
+    let ample = compare::policy(first, counts, question, wanted, question.reply());
+    let exact = try_within(first, ample, question, wanted, need);
+    try_within(
+        first,
+        exact,
+        question,
+        wanted,
+        std::num::wrapping_sub_u32(need, 1),
+    )
 }
 
 // One policy question, by both searches.
-fn try_policy(counts: Counts, known: Known, duty: Duty, asked: Asked, away: usize) -> Counts {
+fn try_policy(
+    first: &mut Option<Difference>,
+    counts: Counts,
+    known: Known,
+    duty: Duty,
+    asked: Asked,
+    away: usize,
+) -> Counts {
     let s = size_of(away);
     let skipping = question::policy(asked, question::SKIPPING, s);
     let full = question::policy(asked, question::FULL, s);
-    let skipped = try_search(counts, skipping, known.policy_reply(duty, true, away));
-    let searched = try_search(skipped, full, known.policy_reply(duty, false, away));
+    let skipped = try_search(
+        first,
+        counts,
+        skipping,
+        known.policy_reply(duty, true, away),
+    );
+    let searched = try_search(first, skipped, full, known.policy_reply(duty, false, away));
     compare::both(
+        first,
         searched,
         question::policy(asked, question::BOTH, s),
         skipping.reply(),
@@ -129,53 +159,80 @@ fn try_policy(counts: Counts, known: Known, duty: Duty, asked: Asked, away: usiz
 }
 
 // The question for the absence with this number: with an ample allowance, with the need, and with one unit less if it needs any.
-fn try_named(counts: Counts, question: Question, wanted: Wanted) -> Counts {
+fn try_named(
+    first: &mut Option<Difference>,
+    counts: Counts,
+    question: Question,
+    wanted: Wanted,
+) -> Counts {
     let need = wanted.units;
-    let ample = compare::named(counts, question, wanted, question.reply());
-    let exact = try_within(ample, question, wanted, need);
+    let ample = compare::named(first, counts, question, wanted, question.reply());
+    let exact = try_within(first, ample, question, wanted, need);
     if need == 0 {
         return exact;
     }
-    try_within(exact, question, wanted, need - 1)
+    try_within(first, exact, question, wanted, need - 1)
 }
 
 // Why an absence blocks, within an allowance.
-fn try_why_within(counts: Counts, question: Question, wanted: Wanted, allowance: u32) -> Counts {
+fn try_why_within(
+    first: &mut Option<Difference>,
+    counts: Counts,
+    question: Question,
+    wanted: Wanted,
+    allowance: u32,
+) -> Counts {
     let narrowed = question.within(allowance);
-    compare::why_allowed(counts, narrowed, wanted, narrowed.explained())
+    compare::why_allowed(first, counts, narrowed, wanted, narrowed.explained())
 }
 
 // Why an absence blocks: with an ample allowance, with the need, and with one unit less if it needs any.
-fn try_why(counts: Counts, question: Question, wanted: Wanted) -> Counts {
+fn try_why(
+    first: &mut Option<Difference>,
+    counts: Counts,
+    question: Question,
+    wanted: Wanted,
+) -> Counts {
     let need = wanted.units;
-    let ample = compare::why(counts, question, wanted, question.explained());
-    let exact = try_why_within(ample, question, wanted, need);
+    let ample = compare::why(first, counts, question, wanted, question.explained());
+    let exact = try_why_within(first, ample, question, wanted, need);
     if need == 0 {
         return exact;
     }
-    try_why_within(exact, question, wanted, need - 1)
+    try_why_within(first, exact, question, wanted, need - 1)
 }
 
 // The absence with this number: filling held against trying everything, the question for it, its reply held against the rule before, and why
 // it blocks.
-fn try_absence(counts: Counts, known: Known, duty: Duty, asked: Asked, number: usize) -> Counts {
+fn try_absence(
+    first: &mut Option<Difference>,
+    counts: Counts,
+    known: Known,
+    duty: Duty,
+    asked: Asked,
+    number: usize,
+) -> Counts {
     let absent = known::mask_of(known::set_of(number));
     let wanted = known::named_reply(known, duty, number);
     let filled = compare::filling(
+        first,
         counts,
         question::named(asked, question::FILLING, absent),
         wanted,
         known.fact(number).found,
     );
     let question = question::named(asked, question::NAMED, absent);
+    let named = try_named(first, filled, question, wanted);
     let before = compare::before(
-        try_named(filled, question, wanted),
+        first,
+        named,
         question::named(asked, question::BEFORE, absent),
         known::unordered_reply(known, duty, number),
         question.reply(),
     );
     let why = question::named(asked, question::WHY, absent);
     try_why(
+        first,
         before,
         why,
         reason::wanted(known, duty, number, asked.spread),
@@ -183,30 +240,42 @@ fn try_absence(counts: Counts, known: Known, duty: Duty, asked: Asked, number: u
 }
 
 // Each absence.
-fn try_absences(counts: Counts, known: Known, duty: Duty, asked: Asked) -> Counts {
+fn try_absences(
+    first: &mut Option<Difference>,
+    counts: Counts,
+    known: Known,
+    duty: Duty,
+    asked: Asked,
+) -> Counts {
     let mut now = counts;
     for number in 0..SETS {
         if number < known.sets {
-            now = try_absence(now, known, duty, asked, number);
+            now = try_absence(first, now, known, duty, asked, number);
         }
     }
     now
 }
 
 // An absence with the bit just past the persons, which may be a row's: it is refused, and so is explaining it.
-fn try_past(counts: Counts, duty: Duty, asked: Asked) -> Counts {
+fn try_past(first: &mut Option<Difference>, counts: Counts, duty: Duty, asked: Asked) -> Counts {
     let past = known::past(duty.rows);
     let question = question::named(asked, question::NAMED, past);
-    let named = compare::named(counts, question, known::refused(), question.reply());
+    let named = compare::named(first, counts, question, known::refused(), question.reply());
     let why = question::named(asked, question::WHY, past);
-    compare::why(named, why, known::refused(), why.explained())
+    compare::why(first, named, why, known::refused(), why.explained())
 }
 
 // Each number of people away up to 4.
-fn try_away(counts: Counts, known: Known, duty: Duty, asked: Asked) -> Counts {
+fn try_away(
+    first: &mut Option<Difference>,
+    counts: Counts,
+    known: Known,
+    duty: Duty,
+    asked: Asked,
+) -> Counts {
     let mut now = counts;
     for away in 0..5 {
-        now = try_policy(now, known, duty, asked, away);
+        now = try_policy(first, now, known, duty, asked, away);
     }
     now
 }
@@ -245,7 +314,7 @@ fn small_tables(rows: usize) -> usize {
 
 // One duty of the small ones: the number's digits, to changing bases, say the holdings, the row count, the task, d, t and
 // the edition.
-fn try_small(counts: Counts, number: usize) -> Counts {
+fn try_small(first: &mut Option<Difference>, counts: Counts, number: usize) -> Counts {
     let rows = number / 512 % 4;
     if number % 512 >= small_tables(rows) {
         return counts;
@@ -260,14 +329,15 @@ fn try_small(counts: Counts, number: usize) -> Counts {
     };
     let asked = asked_of(persons::own(duty), false, AMPLE);
     let known = known::known_of(duty);
-    try_away(try_absences(counts, known, duty, asked), known, duty, asked)
+    let tried = try_absences(first, counts, known, duty, asked);
+    try_away(first, tried, known, duty, asked)
 }
 
 // All tables of up to 3 rows and 3 permissions, with every task, d and t from 1 to 4, s from 0 to 4, and both editions.
-pub(crate) fn try_all_small(counts: Counts) -> Counts {
+pub(crate) fn try_all_small(first: &mut Option<Difference>, counts: Counts) -> Counts {
     let mut now = counts;
     for number in 0..SMALL {
-        now = try_small(now.at(number), number);
+        now = try_small(first, now.at(number), number);
     }
     now
 }
@@ -325,7 +395,7 @@ fn staff_of(accounts: Duty, number: u64) -> Staff {
 
 // One table of 4 to 6 rows with one policy, from four drawn numbers, of which the first is given. A row holds a permission with one chance in two,
 // in most tables with three in four: where little is held, nearly everything blocks.
-fn try_drawn(counts: Counts, a: u64) -> Counts {
+fn try_drawn(first: &mut Option<Difference>, counts: Counts, a: u64) -> Counts {
     let b = next(a);
     let c = next(b);
     let d = next(c);
@@ -343,8 +413,9 @@ fn try_drawn(counts: Counts, a: u64) -> Counts {
     let asked = asked_of(staff, true, (d / 65536 % 4294967296) as u32);
     let duty = staff.merged();
     let known = known::known_of(duty);
-    let tried = try_absences(try_past(counts, duty, asked), known, duty, asked);
-    try_policy(tried, known, duty, asked, digit(d / 1024, 5))
+    let past = try_past(first, counts, duty, asked);
+    let tried = try_absences(first, past, known, duty, asked);
+    try_policy(first, tried, known, duty, asked, digit(d / 1024, 5))
 }
 
 // The number that the next table is drawn from.
@@ -355,11 +426,11 @@ fn next_drawn(a: u64) -> u64 {
 pub const FIRST_DRAWN: u64 = 88172645463325252;
 
 // Tables of 4 to 6 rows, drawn by a fixed row of numbers. They are numbered behind the small ones.
-pub(crate) fn try_all_drawn(counts: Counts) -> Counts {
+pub(crate) fn try_all_drawn(first: &mut Option<Difference>, counts: Counts) -> Counts {
     let mut now = counts;
     let mut a = FIRST_DRAWN;
     for i in 0..DRAWN {
-        now = try_drawn(now.at(SMALL + i), a);
+        now = try_drawn(first, now.at(SMALL + i), a);
         a = next_drawn(a);
     }
     now
@@ -377,9 +448,9 @@ fn drawn(index: usize) -> u64 {
 }
 
 // One table by its number.
-pub(crate) fn try_table(counts: Counts, number: usize) -> Counts {
+pub(crate) fn try_table(first: &mut Option<Difference>, counts: Counts, number: usize) -> Counts {
     if number < SMALL {
-        return try_small(counts, number);
+        return try_small(first, counts, number);
     }
-    try_drawn(counts, drawn(number - SMALL))
+    try_drawn(first, counts, drawn(number - SMALL))
 }

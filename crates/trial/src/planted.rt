@@ -1,5 +1,5 @@
 // Shows that the comparisons can fail: into right replies wrong parts are planted, and the comparison of each kind has to count every one.
-use crate::compare::Counts;
+use crate::compare::{Counts, Difference};
 use crate::known::Wanted;
 use crate::plain::Duty;
 use crate::question::{Asked, Question};
@@ -98,67 +98,85 @@ fn altered(reply: Reply, part: usize) -> Reply {
 }
 
 // The comparison of policy questions, with this part altered.
-fn policy(counts: Counts, ground: Ground, part: usize) -> Counts {
+fn policy(first: &mut Option<Difference>, counts: Counts, ground: Ground, part: usize) -> Counts {
     let question = ground.policy_question(question::SKIPPING);
     let wanted = ground.policy;
-    compare::policy(counts, question, wanted, altered(question.reply(), part))
+    compare::policy(
+        first,
+        counts,
+        question,
+        wanted,
+        altered(question.reply(), part),
+    )
 }
 
 // The comparison of named absences, with each part altered.
-fn named(counts: Counts, ground: Ground) -> Counts {
+fn named(first: &mut Option<Difference>, counts: Counts, ground: Ground) -> Counts {
     let question = ground.named_question(question::NAMED);
     let wanted = ground.named;
     let reply = question.reply();
     let mut now = counts;
     for part in 0..4 {
-        now = compare::named(now, question, wanted, altered(reply, part));
+        now = compare::named(first, now, question, wanted, altered(reply, part));
     }
     now
 }
 
 // The comparison of the two searches, with some parts altered: the units are a kind of their own, as the search that skips may need fewer.
-fn both(counts: Counts, ground: Ground, from: usize, to: usize) -> Counts {
+fn both(
+    first: &mut Option<Difference>,
+    counts: Counts,
+    ground: Ground,
+    from: usize,
+    to: usize,
+) -> Counts {
     let question = ground.policy_question(question::BOTH);
     let full = ground.policy_question(question::FULL);
     let reply = full.reply();
     let mut now = counts;
     for part in 0..4 {
         if part >= from && part < to {
-            now = compare::both(now, question, altered(reply, part), reply);
+            now = compare::both(first, now, question, altered(reply, part), reply);
         }
     }
     now
 }
 
 // The comparison under an allowance: each part altered where the need is allowed, and a decided reply where one unit less is.
-fn allowed(counts: Counts, ground: Ground) -> Counts {
+fn allowed(first: &mut Option<Difference>, counts: Counts, ground: Ground) -> Counts {
     let question = ground.policy_question(question::SKIPPING);
     let wanted = ground.policy;
     let reply = question.reply();
-    let mut now = compare::allowed(counts, question.within(7), wanted, reply);
+    let mut now = compare::allowed(first, counts, question.within(7), wanted, reply);
     for part in 0..4 {
-        now = compare::allowed(now, question.within(8), wanted, altered(reply, part));
+        now = compare::allowed(first, now, question.within(8), wanted, altered(reply, part));
     }
     now
 }
 
 // The comparison of filling: no list found where there is one, and one found where there is none.
-fn filling(counts: Counts, ground: Ground) -> Counts {
+fn filling(first: &mut Option<Difference>, counts: Counts, ground: Ground) -> Counts {
     let question = ground.named_question(question::FILLING);
     let wanted = ground.named;
-    let missed = compare::filling(counts, question, wanted, false);
-    compare::filling(missed, question, wanted.but(known::NONE), true)
+    let missed = compare::filling(first, counts, question, wanted, false);
+    compare::filling(first, missed, question, wanted.but(known::NONE), true)
 }
 
 // The comparison with the rule before, with some parts altered; by that rule the reply to the named absence is the same.
-fn before(counts: Counts, ground: Ground, from: usize, to: usize) -> Counts {
+fn before(
+    first: &mut Option<Difference>,
+    counts: Counts,
+    ground: Ground,
+    from: usize,
+    to: usize,
+) -> Counts {
     let question = ground.named_question(question::BEFORE);
     let wanted = ground.named;
     let reply = question.reply();
     let mut now = counts;
     for part in 0..4 {
         if part >= from && part < to {
-            now = compare::before(now, question, wanted, altered(reply, part));
+            now = compare::before(first, now, question, wanted, altered(reply, part));
         }
     }
     now
@@ -184,55 +202,66 @@ fn misexplained(explained: Explained, part: usize) -> Explained {
 }
 
 // The comparison of reasons, with each part altered.
-fn why(counts: Counts, ground: Ground) -> Counts {
+fn why(first: &mut Option<Difference>, counts: Counts, ground: Ground) -> Counts {
     let question = ground.why_question();
     let wanted = ground.why;
     let explained = question.explained();
-    let reason = compare::why(counts, question, wanted, misexplained(explained, 0));
-    let permission = compare::why(reason, question, wanted, misexplained(explained, 1));
-    compare::why(permission, question, wanted, misexplained(explained, 2))
+    let reason = compare::why(first, counts, question, wanted, misexplained(explained, 0));
+    let permission = compare::why(first, reason, question, wanted, misexplained(explained, 1));
+    compare::why(
+        first,
+        permission,
+        question,
+        wanted,
+        misexplained(explained, 2),
+    )
 }
 
 // The comparison of reasons under an allowance: a reason where one unit less than the need is allowed, and a part altered where the need is.
-fn why_allowed(counts: Counts, ground: Ground) -> Counts {
+fn why_allowed(first: &mut Option<Difference>, counts: Counts, ground: Ground) -> Counts {
     let question = ground.why_question();
     let wanted = ground.why;
     let explained = question.explained();
-    let less = compare::why_allowed(counts, question.within(1), wanted, explained);
+    let less = compare::why_allowed(first, counts, question.within(1), wanted, explained);
     let exact = question.within(2);
-    let reason = compare::why_allowed(less, exact, wanted, misexplained(explained, 0));
-    let permission = compare::why_allowed(reason, exact, wanted, misexplained(explained, 1));
-    compare::why_allowed(permission, exact, wanted, misexplained(explained, 2))
+    let reason = compare::why_allowed(first, less, exact, wanted, misexplained(explained, 0));
+    let permission = compare::why_allowed(first, reason, exact, wanted, misexplained(explained, 1));
+    compare::why_allowed(first, permission, exact, wanted, misexplained(explained, 2))
 }
 
 // The comparison of one kind, on wrong replies alone.
-pub(crate) fn planted(counts: Counts, ground: Ground, kind: usize) -> Counts {
+pub(crate) fn planted(
+    first: &mut Option<Difference>,
+    counts: Counts,
+    ground: Ground,
+    kind: usize,
+) -> Counts {
     if kind <= compare::UNITS {
-        return policy(counts, ground, kind);
+        return policy(first, counts, ground, kind);
     }
     if kind == compare::NAMED {
-        return named(counts, ground);
+        return named(first, counts, ground);
     }
     if kind == compare::BOTH {
-        return both(counts, ground, compare::VERDICT, compare::UNITS);
+        return both(first, counts, ground, compare::VERDICT, compare::UNITS);
     }
     if kind == compare::NEED {
-        return both(counts, ground, compare::UNITS, compare::NAMED);
+        return both(first, counts, ground, compare::UNITS, compare::NAMED);
     }
     if kind == compare::ALLOWANCE {
-        return allowed(counts, ground);
+        return allowed(first, counts, ground);
     }
     if kind == compare::LIST {
-        return before(counts, ground, compare::VERDICT, compare::UNITS);
+        return before(first, counts, ground, compare::VERDICT, compare::UNITS);
     }
     if kind == compare::REASON {
-        return why(counts, ground);
+        return why(first, counts, ground);
     }
     if kind == compare::REASON_ALLOWANCE {
-        return why_allowed(counts, ground);
+        return why_allowed(first, counts, ground);
     }
     if kind == compare::PLACEMENTS {
-        return before(counts, ground, compare::UNITS, compare::NAMED);
+        return before(first, counts, ground, compare::UNITS, compare::NAMED);
     }
-    filling(counts, ground)
+    filling(first, counts, ground)
 }

@@ -2,6 +2,7 @@
 // Which reason is given is the library's reply for the blocker that the sheet names, which is proved; the words are this program's and are not. If
 // the input cannot be read or the words cannot be written, a line on standard error says so.
 #![tactic(auto)]
+
 mod words;
 
 use accounts::Accounts;

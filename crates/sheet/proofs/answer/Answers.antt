@@ -1,0 +1,39 @@
+-- A whole input is answered with what `lines::sheet` writes, which finds the buffer long enough; any other with the complaint. Assumes nothing.
+use mathlib.Core.Path.{◌≡◌, refl, sym, subst}
+use mathlib.Core.List.{List}
+use Prim.Native.Nat.{ℕ, ◌≤◌}
+use native.Mathlib.Omega.{arith}
+use lib.ListN.{length, take}
+use Rattle.lines.specs.declared.Writing.{Writing}
+use Rattle.lines.specs.declared.Writing.TheVariants.{Written}
+use Rattle.lines.specs.Sheet.{sheet_of, longest, Promised}
+use Rattle.input.specs.declared.Progress.{Progress}
+use Rattle.input.specs.declared.Progress.TheVariants.{Failed, Whole, More}
+use Rattle.output.specs.declared.Said.{Said}
+use Rattle.output.specs.Says.{output, errors, Says}
+use Rattle.output.specs.Laws.{all_said}
+use Rattle.sheet.specs.Said.{unreadable, stream_of, text_of}
+use Rattle.sheet.proofs.answer.Goals as goal
+
+-- what `lines::sheet` promises of a buffer that is long enough
+written : (book old new : List ℕ) (w : Writing) → Promised book old new w → longest ≤ length old → (n : ℕ) → w ≡ Written n
+    → Says output (sheet_of book) old new (record { stream = output; length = n })
+written book old new w p long n e = record { on = refl; long = cc (p.written long).0; front = (p.written long).1 }
+
+complains : (buffer old new : List ℕ) (input : Progress) (r : Said) → ((n : ℕ) → input ≡ Whole n → ⊥) → Says errors unreadable old new r
+    → Says (stream_of input) (text_of buffer input) old new r
+unfolding stream_of text_of
+complains buffer old new Failed r k s = s
+complains buffer old new (Whole n) r k s = absurd (k n refl)
+complains buffer old new (More n) r k s = s
+
+whole : (buffer old new : List ℕ) (input : Progress) (n : ℕ) (r : Said) → input ≡ Whole n → Says output (sheet_of (take n buffer)) old new r
+    → Says (stream_of input) (text_of buffer input) old new r
+unfolding stream_of text_of
+whole buffer old new input n r e s = subst (λ (p : Progress). Says (stream_of p) (text_of buffer p) old new r) (sym e) s
+
+pub returns-in_default : goal.returns-in_default
+returns-in_default c = complains _ _ _ _ _ c.in_default.not-Whole (all_said unreadable (omega (arith, c.requires.1)) c.complaint.ensures.said)
+
+pub returns-in-Written : goal.returns-in-Written
+returns-in-Written c = whole _ _ _ _ _ _ c.in-Whole.is (written _ _ _ _ c.sheet.ensures.sheet c.requires.1 _ c.in-Written.is)

@@ -1,0 +1,59 @@
+-- A whole input is answered with what `table::show` writes, which finds the buffer long enough; any other with the complaint. Assumes nothing.
+use mathlib.Core.Path.{◌≡◌, refl, sym, ap, subst, ◌∙◌}
+use mathlib.Core.List.{List}
+use Prim.Native.Nat.{ℕ, ◌≤◌}
+use native.Mathlib.Omega.{arith}
+use lib.ListN.{length, take}
+use Rattle.book.specs.Reading.{read_of}
+use Rattle.book.specs.declared.Reading.{Reading}
+use Rattle.book.specs.declared.Reading.TheVariants.{Good, Refused}
+use Rattle.table.specs.declared.Shown.{Shown}
+use Rattle.table.specs.declared.Shown.TheVariants.{Table, Bad, TooShort}
+use Rattle.table.specs.Shown.{shown_of, shown_as, longest, Shows}
+use Rattle.input.specs.declared.Progress.{Progress}
+use Rattle.input.specs.declared.Progress.TheVariants.{Failed, Whole, More}
+use Rattle.output.specs.declared.Said.{Said}
+use Rattle.output.specs.Says.{output, errors, Says}
+use Rattle.output.specs.Laws.{all_said}
+use Rattle.show.specs.Said.{unreadable, stream_of, text_of}
+use Rattle.show.proofs.answer.Goals as goal
+
+complains : (buffer old new : List ℕ) (input : Progress) (r : Said) → ((n : ℕ) → input ≡ Whole n → ⊥) → Says errors unreadable old new r
+    → Says (stream_of input) (text_of buffer input) old new r
+unfolding stream_of text_of
+complains buffer old new Failed r k s = s
+complains buffer old new (Whole n) r k s = absurd (k n refl)
+complains buffer old new (More n) r k s = s
+
+whole : (buffer old new : List ℕ) (input : Progress) (n : ℕ) (r : Said) → input ≡ Whole n → Says output (shown_of (take n buffer)) old new r
+    → Says (stream_of input) (text_of buffer input) old new r
+unfolding stream_of text_of
+whole buffer old new input n r e s = subst (λ (p : Progress). Says (stream_of p) (text_of buffer p) old new r) (sym e) s
+
+-- how many bytes are shown, of either kind
+abbrev bytes_in : Shown → ℕ
+bytes_in (Table n) = n
+bytes_in (Bad n) = n
+bytes_in TooShort = 0
+
+as_long : (r : Reading) (n : ℕ) → bytes_in (shown_as r n) ≡ n
+as_long (Good starts) n = refl
+as_long (Refused fault place) n = refl
+
+-- what `table::show` promises of a buffer that is long enough
+shown : (book old new : List ℕ) (w : Shown) → Shows book old new w → longest ≤ length old → (n : ℕ) → bytes_in w ≡ n
+    → Says output (shown_of book) old new (record { stream = output; length = n })
+shown book old new w p long n e = record {
+  on = refl;
+  long = sym e ∙ ap bytes_in (p.written long).0 ∙ as_long (read_of book) (length (shown_of book));
+  front = (p.written long).1;
+}
+
+pub returns-in_default : goal.returns-in_default
+returns-in_default c = complains _ _ _ _ _ c.in_default.not-Whole (all_said unreadable (omega (arith, c.requires.1)) c.complaint.ensures.said)
+
+pub returns-in-Table : goal.returns-in-Table
+returns-in-Table c = whole _ _ _ _ _ _ c.in-Whole.is (shown _ _ _ _ c.show.ensures.shown c.requires.1 _ (ap bytes_in c.in-Table.is))
+
+pub returns-in-Bad : goal.returns-in-Bad
+returns-in-Bad c = whole _ _ _ _ _ _ c.in-Whole.is (shown _ _ _ _ c.show.ensures.shown c.requires.1 _ (ap bytes_in c.in-Bad.is))
