@@ -252,7 +252,11 @@ fn without(rt: &impl Print, board: Board, absent: u64, text: &[u8]) -> bool {
         Listed::Set(set) => {
             let roster = board.roster;
             let policy = policy_of(narrow(set), 0, text);
-            said::reply(rt, roster, live::ask_named(roster, policy, absent, ALLOWANCE))
+            said::reply(
+                rt,
+                roster,
+                live::ask_named(roster, policy, absent, ALLOWANCE),
+            )
         }
         Listed::NoSuch => said::objection(rt, Objection::Permission),
         Listed::Not => not_understood(rt, text),
@@ -270,7 +274,13 @@ fn show(rt: &impl Print, board: Board) -> bool {
     let mut place: usize = 0;
     while place < 64 {
         if (roster.occupied >> place) & 1 == 1 {
-            is_heard = person(rt, board, place, roster.staff[place], roster.holdings[place]);
+            is_heard = person(
+                rt,
+                board,
+                place,
+                roster.staff[place],
+                roster.holdings[place],
+            );
         }
         place += 1;
     }
@@ -293,30 +303,43 @@ fn not_understood(rt: &impl Print, text: &[u8]) -> bool {
     let word = words::word(text, 0);
     said::text(rt, b"not understood: ");
     if word == b"hire".as_slice() || word == b"leave".as_slice() {
-        said::text(rt, b"a staff number goes with it, from 0 to 4294967295: hire 101\n")
+        said::text(
+            rt,
+            b"a staff number goes with it, from 0 to 4294967295: hire 101\n",
+        )
     } else if word == b"grant".as_slice() || word == b"revoke".as_slice() {
-        said::text(rt, b"a staff number and a permission go with it: grant 101 20\n")
+        said::text(
+            rt,
+            b"a staff number and a permission go with it: grant 101 20\n",
+        )
     } else if word == b"who".as_slice() {
         said::text(rt, b"a permission goes with it: who 20\n")
     } else if word == b"ask".as_slice() || word == b"full".as_slice() {
-        said::text(rt, 
+        said::text(
+            rt,
             b"a task and three numbers go with it, how many away, crews, to a crew, and then an edition or none: ask 10,20 1 2 2\n",
         )
     } else if word == b"away".as_slice() {
-        said::text(rt, 
+        said::text(
+            rt,
             b"people, a task and two numbers go with it, crews, to a crew, and then an edition or none: away 101,104 10,20 2 2\n",
         )
     } else if word == b"write".as_slice() {
-        said::text(rt, b"the name of a new file goes with it, without blanks: write new.book\n")
+        said::text(
+            rt,
+            b"the name of a new file goes with it, without blanks: write new.book\n",
+        )
     } else {
-        said::text(rt, 
+        said::text(
+            rt,
             b"say hire, leave, grant, revoke, who, ask, full, away, show, sheet, write, or help\n",
         )
     }
 }
 
 fn help(rt: &impl Print) -> bool {
-    said::text(rt, 
+    said::text(
+        rt,
         b"hire 101               somebody comes, at the lowest free place
 leave 101              and goes again
 grant 101 20           holds permission 20 from now on

@@ -1,6 +1,7 @@
 // A live roster at a terminal: calls and questions as lines of text on standard input, an answer to each on standard output. `bin/roster` runs it;
 // its argument, if there is one, is a book, with whose roster it begins.
 #![tactic(auto)]
+
 mod asked;
 mod board;
 mod books;
@@ -37,8 +38,15 @@ fn is_taken(rt: &impl Eprint, intake: Intake) -> bool {
         Intake::Taken => {
             return true;
         }
-        Intake::Shared => complain(rt, "the book is not taken: two of its rows are one person's"),
-        Intake::Refused(fault, place) => complain_of_book(rt, said::wide(fault.number()), place as u64),
+        Intake::Shared => complain(
+            rt,
+            "the book is not taken: two of its rows are one person's",
+        ),
+        Intake::Refused(fault, place) => complain_of_book(
+            rt,
+            said::wide(fault.number()),
+            place as u64,
+        ),
     }
     false
 }
@@ -76,7 +84,9 @@ fn of_name(rt: &(impl Files + Eprint), name: &str) -> Start {
 
 // The name has to be text; there is no longer path.
 fn of_argument(rt: &(impl Files + Eprint), argument: Option<&[u8]>) -> Start {
-    if let Some(bytes) = argument && let Ok(name) = str::from_utf8(bytes) {
+    if let Some(bytes) = argument
+        && let Ok(name) = str::from_utf8(bytes)
+    {
         return of_name(rt, name);
     }
     complain(rt, "the book cannot be read");

@@ -1,6 +1,7 @@
 // One person's holdings in a book changed, and the book written again: the code that README shows under "Writing a book". Row 1 of book B, 102, who
 // holds 10 alone, gets to hold 10 and 20; the sheet is printed before and after.
 #![tactic(auto)]
+
 use input::Progress;
 use lines::Writing;
 use roster::Policy;
