@@ -10,7 +10,7 @@ use mathlib.Core.List.{List, [], ◌∷◌, Memᴰ}
 use Prim.Native.Nat.{ℕ, zero, suc, ◌+◌, ◌^◌, ◌≤◌, ◌<◌}
 use Rattle.std.proofs.Math.Decide.{ℕ_discrete}
 use Rattle.std.specs.Int.Bits.{bit_and}
-use Rattle.std.specs.Int.Count.{ones, count_trailing_zeros}
+use Rattle.std.specs.Int.Count.{ones}
 use borrow.Author.Tests.{eq-eqb, ne_eqb, le-leb, lt-leb, eqb-true, eqb-false, leb-true, leb-false}
 use Rattle.sets.specs.Sets.{bit, Has, bit_le, bit-and, and_in, in_and, missing_lt, missing_in, trailing_least}
 use Rattle.sets.specs.Members.{members, set_of, Ascends}
@@ -21,6 +21,7 @@ use Rattle.roster.specs.Limits.{row_limit}
 use Rattle.roster.specs.Replies.{no_crews}
 use Rattle.crews.specs.declared.Filling.{Filling}
 use Rattle.crews.specs.Filling.{Work, Outcome, nothing, complete, missing_of, place_of, close_of, closes_of, placed_of, wanted_of, pool_of, pool, candidates, try_each, search}
+pub use Rattle.crews.proofs.Laws.Pool.{pool-short, pool_whole, pool_in}
 
 -- the row placed, and its crew not yet closed
 abbrev pub put_of : Work → Filling → ℕ → Filling
@@ -82,23 +83,6 @@ pub wanted_missing : (task : ℕ) (f : Filling) → task < 2 ^ 32 → missing_of
     → Has task (wanted_of task f) × (bit f.held (wanted_of task f) ≡ 0)
 wanted_missing task f wide some =
     missing_in task f.held (wanted_of task f) (trailing_least 32 (missing_of task f) (missing_lt 32 task f.held wide) (omega (arith, some))).has
-
-pub pool-short : (holders : ℕ → ℕ) (missing free : ℕ) → missing ≢ 0 → pool_of holders missing free ≡ bit_and (holders (count_trailing_zeros 32 missing)) free
-unfolding pool_of
-pool-short holders missing free n = rw (ne_eqb _ 0 n, pool_of)
-
-pub pool_whole : (holders : ℕ → ℕ) (missing free : ℕ) → missing ≡ 0 → pool_of holders missing free ≡ free
-unfolding pool_of
-pool_whole holders missing free e = rw (eq-eqb _ 0 e, pool_of)
-
--- they are some of the free rows
-pub pool_in : (holders : ℕ → ℕ) (missing free i : ℕ) → bit (pool_of holders missing free) i ≤ bit free i
-pool_in holders missing free i = go (ℕ_discrete missing 0)
-  where
-    go : Dec (missing ≡ 0) → bit (pool_of holders missing free) i ≤ bit free i
-    go (yes e) = omega (arith, ap (λ (x : ℕ). bit x i) (pool_whole holders missing free e))
-    go (no n) =
-        omega (arith, ap (λ (x : ℕ). bit x i) (pool-short holders missing free n), bit-and (holders (count_trailing_zeros 32 missing)) free i)
 
 -- row is a candidate: it is neither absent nor in a crew, and holds the permission that is wanted, where one is
 pub record Candidate (w : Work) (f : Filling) (row : ℕ) : Type 0 where
