@@ -21,7 +21,6 @@ use Rattle.reasons.specs.declared.Explained.{Explained}
 use Rattle.reasons.specs.Reasons.{reason_number}
 use Rattle.reasons.specs.Replies.{explained_with, WhyReply}
 use Rattle.reasons.specs.Replied.{scarce_in, why_reply_of}
-use Rattle.reasons.specs.Laws.Replies.{why_allowed}
 
 -- ---- how the table is written
 
@@ -122,22 +121,5 @@ abbrev pub reply_of : Question → Explained
 reply_of (why a P d t ed absent allowance) = why_reply_of a P d t ed (set_of_rows absent) allowance
 
 -- the task has 32 bits
-abbrev narrow : Question → Bool
+abbrev pub narrow : Question → Bool
 narrow (why a P d t ed absent allowance) = ltb P (2 ^ 32)
-
-allowed : (q : Question) → narrow q ≡ true → Allowed q (reply_of q)
-allowed (why a P d t ed absent allowance) wide = why_allowed a P d t ed (set_of_rows absent) allowance (ltb-true P (2 ^ 32) wide)
-
--- where the definition gives the replies and numbers of a list, they are allowed
-all_allowed : (l : List Example) → map (λ (e : Example). reply_of e.question) l ≡ map (λ (e : Example). explained_with e.answer e.units) l
-    → map (λ (e : Example). reason_number e.answer) l ≡ map Example.number l
-    → map (λ (e : Example). narrow e.question) l ≡ map (λ (e : Example). true) l → AllAllowed l
-all_allowed [] r n w = tt
-all_allowed (e ∷ rest) r n w =
-    let here : reply_of e.question ≡ explained_with e.answer e.units = cc in
-    (subst (Allowed e.question) here (allowed e.question (cc)), cc, all_allowed rest (cc) (cc) (cc))
-
--- each reply of the table is the one allowed, and each number the one published
-pub examples_hold : AllAllowed examples
-unfolding bit sum_to to_n cons? members filter hasb set_of ones ones_in count_trailing_zeros least_members place_of close_of closes_of placed_of pool_of candidates try_each search policy_ruling first union_to first_of leads count_of person_of held_by tabulate scarce_in
-examples_hold = all_allowed examples refl refl refl

@@ -41,7 +41,7 @@ use Rattle.values.specs.declared.Wrote.TheVariants.{Written}
 use Rattle.live.specs.Changes.{Call, told_of, after_from, table_of}
 use Rattle.live.specs.Plain.{answer_of, plain_from}
 use Rattle.live.specs.Agrees.{Agrees}
-use Rattle.live.specs.Laws.Always.{always_from}
+use Rattle.live.proofs.Laws.Always.{always_from}
 use Rattle.live.specs.Laws.Twice.{Once, once_from}
 use Rattle.live.specs.declared.Roster.{Roster}
 use Rattle.desk.specs.Filled.{seated_by, seated, plain_rows, filled_from}

@@ -33,7 +33,7 @@ use Rattle.live.specs.Plain.{Somebody, member}
 use Rattle.live.specs.Agrees.{Stands, Agrees}
 use Rattle.live.specs.Laws.Lists.{member_here, member_next}
 use Rattle.live.specs.Laws.Gathering.{map_at, map-past}
-use Rattle.live.specs.Laws.Tables.{members_in, members_out}
+use Rattle.live.proofs.Laws.Tables.{members_in, members_out}
 use Rattle.live.specs.Laws.Twice.{Once, clash}
 use Rattle.desk.specs.Filled.{seated_by, seated, whose, seat_of, plain_rows}
 

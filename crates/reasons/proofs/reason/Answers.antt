@@ -10,7 +10,7 @@ use Rattle.reasons.specs.Reasons.{Scarce, Lowest, NoneIs}
 use Rattle.reasons.specs.Replied.{lowest_scarce}
 use Rattle.reasons.specs.Laws.Here.{lent_lowest}
 use Rattle.reasons.specs.Laws.Lowest.{lowest_scarce_lem, none_scarce}
-use Rattle.reasons.specs.Laws.Reasons.{overlap_is, no_crew_is}
+use Rattle.reasons.proofs.Laws.Reasons.{overlap_is, no_crew_is}
 use Rattle.reasons.proofs.reason.Goals as goal
 use Rattle.reasons.proofs.reason.Goals.{After-lowest_scarce-permission, Start}
 

@@ -18,7 +18,7 @@ use Rattle.reasons.specs.declared.Explanation.TheVariants as explanation
 use Rattle.reasons.specs.Reasons.{Reason}
 use Rattle.reasons.specs.Replies.{explained_with, WhyReply}
 use Rattle.reasons.specs.Inner.{Stuck}
-use Rattle.reasons.specs.Laws.Replies.{Kind, refused, undecided, nothing, blocked, why_kind, is_refused_lem, is_undecided, is_nothing, is_reason}
+use Rattle.reasons.proofs.Laws.Replies.{Kind, refused, undecided, nothing, blocked, why_kind, is_refused_lem, is_undecided, is_nothing, is_reason}
 use Rattle.reasons.proofs.Verdicts.{Left}
 use Rattle.reasons.proofs.why.Goals as goal
 use Rattle.reasons.proofs.why.Goals.{Start}

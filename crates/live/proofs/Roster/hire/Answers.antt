@@ -2,7 +2,7 @@
 use mathlib.Core.Path.{sym, ap, ◌∙◌}
 use Prim.Native.Nat.{ℕ}
 use Rattle.live.specs.Changes.{hired_at, done}
-use Rattle.live.specs.Laws.Told.{hire_present, hire_full, hire_done}
+use Rattle.live.proofs.Laws.Told.{hire_present, hire_full, hire_done}
 use Rattle.live.proofs.Roster.hire.Goals as goal
 
 pub returns-then-self : goal.returns-then-self

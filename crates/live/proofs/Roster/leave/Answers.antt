@@ -2,7 +2,7 @@
 use mathlib.Core.Path.{sym, ap, ◌∙◌}
 use Rattle.live.specs.Changes.{done, standing}
 use Rattle.live.specs.Laws.First.{from_below}
-use Rattle.live.specs.Laws.Told.{leave_done, leave_nobody}
+use Rattle.live.proofs.Laws.Told.{leave_done, leave_nobody}
 use Rattle.live.proofs.Roster.leave.Goals as goal
 
 pub left-requires : goal.left-requires

@@ -19,9 +19,9 @@ use Rattle.reasons.specs.declared.Explained.{Explained}
 use Rattle.reasons.specs.Reasons.{reason_number}
 use Rattle.reasons.specs.Replies.{need_why, WhyReply}
 use Rattle.reasons.specs.Told.{PersonsReason, GivesReason, Tells}
-use Rattle.reasons.specs.Laws.Persons.{reason_number_lem, reason_persons}
-use Rattle.reasons.specs.Laws.Reasons.{reason_blocks}
-use Rattle.reasons.specs.Laws.Replies.{Kind, refused, undecided, nothing, blocked, why_kind, never, is_reason, why_same}
+use Rattle.reasons.proofs.Laws.Persons.{reason_number_lem, reason_persons}
+use Rattle.reasons.proofs.Laws.Reasons.{reason_blocks}
+use Rattle.reasons.proofs.Laws.Replies.{Kind, refused, undecided, nothing, blocked, why_kind, never, is_reason, why_same}
 
 module _ (a : Accounts) (P d t ed A allowance : ℕ) (wide : P < 2 ^ 32) (r : Explained) (k : WhyReply a P d t ed A allowance r) where
   -- the units of the named question: none, all that was allowed, or the need

@@ -17,7 +17,7 @@ use Rattle.absences.specs.Asked.{PolicyReply}
 use Rattle.live.specs.Changes.{Call, after, gathered_of, table_of}
 use Rattle.live.specs.Plain.{Somebody, Plain, member, somebodies, held_by, plain_table, plain_numbers, plain_after}
 use Rattle.live.specs.Agrees.{Stands, Agrees}
-use Rattle.live.specs.Laws.Always.{agrees}
+use Rattle.live.proofs.Laws.Always.{agrees}
 use Rattle.live.specs.declared.Roster.{Roster}
 
 pub members_in : (k w m : ℕ) → bit m 0 ≡ 1 → members k (suc w) m ≡ k ∷ members (suc k) w (m / 2)

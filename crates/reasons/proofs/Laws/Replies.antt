@@ -19,7 +19,7 @@ use Rattle.reasons.specs.declared.Explained.{Explained}
 use Rattle.reasons.specs.Reasons.{Reason}
 use Rattle.reasons.specs.Replies.{explained_with, need_why, WhyReply}
 use Rattle.reasons.specs.Replied.{reason_of, explained_by, why_reply_of}
-use Rattle.reasons.specs.Laws.Reasons.{reason_unique, reason_given}
+use Rattle.reasons.proofs.Laws.Reasons.{reason_unique, reason_given}
 
 -- ---- the four kinds
 

@@ -1,0 +1,4 @@
+pub mod Reasons
+pub mod Replies
+pub mod Persons
+pub mod Told
