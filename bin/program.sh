@@ -16,7 +16,7 @@ find_kit() {
         kit=$(dirname "$(dirname "$(readlink -f "$rt")")")
     fi
     proved_with=$(cat "$root/KIT")
-    found=$("$kit/bin/rt" version) || die "the kit at $kit does not say which it is"
+    found=$("$kit/bin/rt" version </dev/null) || die "the kit at $kit does not say which it is"
     [ "$found" = "$proved_with" ] || printf '%s: the kit is %s; the project is proved with %s\n' "$script" "$found" "$proved_with" >&2
 }
 
