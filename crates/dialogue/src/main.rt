@@ -11,7 +11,6 @@ mod words;
 
 use board::Board;
 use desk::Intake;
-use input::Progress;
 use std::env::FillError;
 use std::rt::{Env, Files, Runtime};
 use typed::{Ended, Line};
@@ -75,7 +74,7 @@ fn unready() -> Start {
 // The roster of the book with this name. One byte more than the longest book has is enough to refuse what is longer.
 fn of_name(rt: &(impl Files + Eprint), name: &str) -> Start {
     let mut book = [0u8; lines::ENOUGH];
-    let Progress::Whole(size) = input::read_file(rt, name, &mut book) else {
+    let Some(size) = input::read_file(rt, name, &mut book) else {
         complain(rt, "the book cannot be read");
         return unready();
     };

@@ -5,7 +5,6 @@ ghost use Rattle.std.specs.Counts.{IsPrefixLen};
 
 use crate::draft::{Draft, ROOM, b, empty, longest, permissions_to};
 use crate::words::{WORDS, argument, byte_of, is_word, narrow, next_word, part, word_end};
-use input::Progress;
 use std::rt::Files;
 
 // Puts what the file has into the buffer, and answers how many bytes: none where there is no such file.
@@ -15,10 +14,7 @@ pub(crate) fn load(rt: &impl Files, name: &[u8], room: &mut [u8]) -> usize
     let Ok(path) = str::from_utf8(name) else {
         return 0;
     };
-    match input::read_file(rt, path, room) {
-        Progress::Whole(size) => size,
-        _ => 0,
-    }
+    input::read_file(rt, path, room).unwrap_or(0)
 }
 
 fn book_of_file(rt: &impl Files, name: &[u8]) -> Draft {

@@ -2,7 +2,7 @@
 // `read`; what is made of its answer is said here, read by read.
 #![tactic(auto)]
 
-ghost use Rattle.std.specs.Prelude.{◌≡◌, ◌+◌, ◌-◌, ◌≤◌, length};
+ghost use Rattle.std.specs.Prelude.{◌≡◌, ◌+◌, ◌-◌, ◌≤◌, length, IfSome};
 ghost use Rattle.input.specs.Input.{grown_by, after_read, answer, Moved, OneRead, Settled};
 
 use std::fs::File;
@@ -71,13 +71,32 @@ pub fn read_all<R: Read>(from: &mut R, buffer: &mut [u8]) -> Progress
     }
 }
 
-// The same of a file; one that cannot be opened cannot be read.
-pub fn read_file<F: Files>(files: &F, path: &str, buffer: &mut [u8]) -> Progress
-    ensures settled { Settled result buffer.new }
+// Reads until the input ends, a read fails or the buffer is full, and answers how many bytes came.
+pub fn read_full<R: Read>(from: &mut R, buffer: &mut [u8]) -> usize
+    ensures within { result ≤ length buffer.new }
+    ensures long { length buffer.new ≡ length buffer.old }
+{
+    let mut count = 0;
+    while count < buffer.len() {
+        let got = from.read(&mut buffer[count..]);
+        let Ok(more) = got else {
+            return count;
+        };
+        if more == 0 {
+            return count;
+        }
+        count += more;
+    }
+    count
+}
+
+// The same of a file; nothing where it cannot be opened.
+pub fn read_file<F: Files>(files: &F, path: &str, buffer: &mut [u8]) -> Option<usize>
+    ensures within { IfSome result (λ n. n ≤ length buffer.new) }
     ensures long { length buffer.new ≡ length buffer.old }
 {
     match File::open(files, path) {
-        Ok(mut file) => read_all(&mut file, buffer),
-        Err(_) => Progress::Failed,
+        Ok(mut file) => Some(read_full(&mut file, buffer)),
+        Err(_) => None,
     }
 }

@@ -2,11 +2,9 @@
 // holds 10 alone, gets to hold 10 and 20; the sheet is printed before and after.
 #![tactic(auto)]
 
-use input::Progress;
 use lines::Writing;
 use roster::Policy;
 use std::io;
-use std::rt::Files;
 use values::Wrote;
 
 // The book with these holdings in this row, at the front of the buffer, or why it is not written. A refused book has no values, and so gives 12; a
@@ -38,17 +36,9 @@ fn show_sheet(rt: &impl Print, book: &[u8]) -> io::Result<()> {
     }
 }
 
-// How many bytes the file has; none where it cannot be read.
-fn load(rt: &impl Files, name: &str, room: &mut [u8]) -> usize {
-    match input::read_file(rt, name, room) {
-        Progress::Whole(length) => length,
-        _ => 0,
-    }
-}
-
 fn main(rt: HostRuntime) -> io::Result<()> {
     let mut bytes = [0u8; values::LONGEST];
-    let length = load(&rt, "b.book", &mut bytes);
+    let length = input::read_file(&rt, "b.book", &mut bytes).unwrap_or(0);
     let book = front(&bytes, length);
     show_sheet(&rt, book)?;
 

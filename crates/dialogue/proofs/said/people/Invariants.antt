@@ -1,5 +1,5 @@
 -- The loop ends: a turn for each that is left.
-use Rattle.std.proofs.Common.{◌-◌, ◌≤◌, rules}
+use Rattle.std.proofs.Common.{◌-◌, ◌≤◌}
 use Rattle.dialogue.proofs.said.people.Given as goal
 
 abbrev pub invariant-loop-row : goal.invariant-loop-row

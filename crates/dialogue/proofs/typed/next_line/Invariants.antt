@@ -1,5 +1,4 @@
 -- The loop ends: a turn for each that is left.
-use Rattle.std.proofs.Common.{rules}
 use Rattle.dialogue.proofs.typed.next_line.Given as goal
 
 abbrev pub invariant-loop-turns : goal.invariant-loop-turns

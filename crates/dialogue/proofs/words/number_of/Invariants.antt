@@ -1,5 +1,5 @@
 -- The loop ends: a turn for each that is left.
-use Rattle.std.proofs.Common.{◌-◌, ◌≤◌, length, rules}
+use Rattle.std.proofs.Common.{◌-◌, ◌≤◌, length}
 use Rattle.dialogue.proofs.words.number_of.Given as goal
 
 abbrev pub invariant-loop-i : goal.invariant-loop-i
