@@ -1,23 +1,15 @@
 -- The facts of the table of computed examples (specs/Examples). Assumes nothing.
-use Rattle.std.specs.Prelude.{◌≡◌, refl, Bool, true, List, [], ◌∷◌, ◌++◌, map, ℕ, zero, suc, ◌+◌, ◌-◌, ◌^◌, ltb, length, replicate}
+use Rattle.std.specs.Prelude.{◌≡◌, refl, true, List, [], ◌∷◌, map, ◌^◌}
 use Rattle.std.proofs.Common.{subst, ltb-true}
 use Rattle.std.specs.Int.Count.{ones, ones_in, count_trailing_zeros}
 use Rattle.sets.specs.Sets.{bit}
 use Rattle.sets.specs.Sums.{sum_to, to_n}
 use Rattle.sets.specs.Members.{cons?, members, filter, hasb, set_of}
-use Rattle.roster.specs.declared.Table.{Table}
-use Rattle.roster.specs.declared.Refusal.{Refusal}
-use Rattle.roster.specs.declared.Verdict.TheVariants.{Yes, No, Undecided, Crews, None, Refused}
-use Rattle.roster.specs.declared.Reply.{Reply}
-use Rattle.roster.specs.Limits.{row_limit, crew_limit}
 use Rattle.roster.specs.Meaning.{least_members, outweighsb, ahead, rank}
 use Rattle.roster.specs.Refusals.{policy_ruling, named_ruling}
-use Rattle.roster.specs.Replies.{no_crews}
 use Rattle.crews.specs.Filling.{place_of, close_of, closes_of, placed_of, pool_of, candidates, try_each, search}
-use Rattle.crews.specs.Named.{NamedReply, named_reply_of}
 use Rattle.crews.proofs.Laws.Allowed.{named_allowed}
-use Rattle.absences.specs.Tried.{row_from, Way, full, skipping, joins, listed, sizes_from, weighed}
-use Rattle.absences.specs.Asked.{PolicyReply}
+use Rattle.absences.specs.Tried.{row_from, joins, listed, sizes_from, weighed}
 use Rattle.absences.specs.Replied.{policy_reply_of}
 use Rattle.absences.proofs.Laws.Demands.{policy_allowed}
 use Rattle.absences.specs.Examples.{policy, named, Question, Example, Allowed, AllAllowed, reply_of, narrow, examples}

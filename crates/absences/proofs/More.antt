@@ -1,19 +1,15 @@
 -- The fact of the second table of computed examples (specs/More). Assumes nothing.
-use Rattle.std.specs.Prelude.{◌≡◌, refl, List, [], ◌∷◌, ◌++◌, ℕ, replicate}
+use Rattle.std.specs.Prelude.{refl}
 use Rattle.std.specs.Int.Count.{ones, ones_in, count_trailing_zeros}
 use Rattle.sets.specs.Sets.{bit}
 use Rattle.sets.specs.Sums.{sum_to, to_n}
 use Rattle.sets.specs.Members.{cons?, members, filter, hasb, set_of}
-use Rattle.roster.specs.declared.Table.{Table}
-use Rattle.roster.specs.declared.Refusal.{Refusal}
-use Rattle.roster.specs.declared.Refusal.TheVariants.{Rows, Task, Away, Crews, Size, Absence, Edition}
 use Rattle.roster.specs.Meaning.{least_members, outweighsb, ahead, rank}
 use Rattle.roster.specs.Refusals.{policy_ruling, named_ruling}
 use Rattle.crews.specs.Filling.{place_of, close_of, closes_of, placed_of, pool_of, candidates, try_each, search}
-use Rattle.absences.specs.Tried.{row_from, Way, full, skipping, joins, listed, sizes_from, weighed}
-use Rattle.absences.specs.Asked.{found_before}
+use Rattle.absences.specs.Tried.{row_from, joins, listed, sizes_from, weighed}
 use Rattle.absences.specs.Replied.{policy_reply_of}
-use Rattle.absences.specs.Examples.{policy, named, Example, table_of, set_of_rows, yes_with, no_with, crews-with, none-with, undecided_with, refused_with_lem, ample, H, AllAllowed}
+use Rattle.absences.specs.Examples.{AllAllowed}
 use Rattle.absences.specs.More.{more}
 use Rattle.absences.proofs.Examples.{all_allowed}
 

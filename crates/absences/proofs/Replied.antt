@@ -1,4 +1,5 @@
 -- The reply is that of the whole list of absences: nobody absent first, then the sizes from 1 on. Assumes nothing.
+use Rattle.std.specs.Prelude.{Ok, Result}
 use mathlib.Core.Path.{◌≡◌, refl, sym, ap, ap₂, ◌∙◌}
 use mathlib.Core.Logic.{◌⊎◌, inl, inr, ◌≢◌}
 use mathlib.Core.Bool.{true, false}
@@ -8,8 +9,6 @@ use native.Mathlib.Nat.{zero-add}
 use native.Mathlib.Omega.{arith}
 use Rattle.roster.specs.declared.Table.{Table}
 use Rattle.roster.specs.declared.Reply.{Reply}
-use Rattle.roster.specs.declared.Ruling.{Ruling}
-use Rattle.roster.specs.declared.Ruling.TheVariants.{Admitted}
 use Rattle.roster.specs.declared.Verdict.{Verdict}
 use Rattle.roster.specs.Refusals.{policy_ruling}
 use Rattle.roster.specs.Replies.{reply_with}
@@ -31,13 +30,14 @@ use Rattle.absences.proofs.Laws.Weighed.{and_then, weighed-append}
 use Rattle.absences.proofs.Laws.Decided.{verdict_late, verdict_within}
 use Rattle.absences.proofs.Absent.{absent_told}
 use Rattle.absences.proofs.Spent.{Judged, is_open, is_blocked, is_over, judge, walked_fits, walked_over, open_undecided, turn_open, turn_stopped}
+use Rattle.roster.specs.declared.Refusal.{Refusal}
 
 -- the reply where the search has come to r
 abbrev told_by : ℕ → List ℕ → Walked → Reply
 told_by most crews r = reply_from r.course crews r.blocker r.units most
 
 -- the reply from where the search has come to is that from what the absences come to
-reply_told : (most : ℕ) (w : Found) (r : Walked) (crews : List ℕ) → r ≡ walked_of most 0 w → told_by most crews r ≡ replied_by Admitted w crews most
+reply_told : (most : ℕ) (w : Found) (r : Walked) (crews : List ℕ) → r ≡ walked_of most 0 w → told_by most crews r ≡ replied_by (Ok tt) w crews most
 reply_told most w r crews e = go (judge most 0 w r e)
   where
     says : Verdict → Reply
@@ -48,7 +48,7 @@ reply_told most w r crews e = go (judge most 0 w r e)
         ap (told_by most crews) (e ∙ walked_fits most 0 w h)
         ∙ ap₂ (λ (y : Course) (n : ℕ). reply_from y crews w.blocker n most) q (zero-add w.need)
 
-    go : Judged most 0 w r → told_by most crews r ≡ replied_by Admitted w crews most
+    go : Judged most 0 w r → told_by most crews r ≡ replied_by (Ok tt) w crews most
     go (is_open b c u l) = fits (omega arith) Open (ap course_of b) ∙ ap says (sym (verdict_within w most false (omega arith) b))
     go (is_blocked b c l) = fits l Blocked (ap course_of b) ∙ ap says (sym (verdict_within w most true (omega arith) b))
     go (is_over l c) = ap (told_by most crews) (e ∙ walked_over most 0 w l) ∙ ap says (sym (verdict_late w most (omega arith)))
@@ -114,8 +114,8 @@ module _ (way : Way) (table : Table) (s : Search) (most : ℕ) (first : Filled)
       spent Undecided = inl refl
 
 -- the definition's reply, by the ruling
-pub ruled : (way : Way) (table : Table) (P away d t ed allowance : ℕ) (x : Ruling) → policy_ruling table.rows P away d t ed ≡ x
+pub ruled : (way : Way) (table : Table) (P away d t ed allowance : ℕ) (x : Result Unit Refusal) → policy_ruling table.rows P away d t ed ≡ x
     → policy_reply_of way table P away d t ed allowance ≡ replied_by x (found way table P away d t ed) (first_list table P d t ed 0) allowance
 unfolding policy_reply_of
 ruled way table P away d t ed allowance x e =
-    ap (λ (y : Ruling). replied_by y (found way table P away d t ed) (first_list table P d t ed 0) allowance) e
+    ap (λ (y : Result Unit Refusal). replied_by y (found way table P away d t ed) (first_list table P d t ed 0) allowance) e

@@ -1,9 +1,8 @@
 -- The policy question: what each search is allowed to reply, and what a reply tells. Nothing here is proved: these are definitions.
-use Rattle.std.specs.Prelude.{◌≡◌, ◌≢◌, ◌↔◌, List, ℕ, ◌≤◌, ◌<◌, take}
+use Rattle.std.specs.Prelude.{◌≡◌, ◌≢◌, ◌↔◌, List, ℕ, ◌≤◌, ◌<◌, take, Err, Ok}
 use Rattle.roster.specs.declared.Table.{Table}
 use Rattle.roster.specs.declared.Policy.{Policy}
 use Rattle.roster.specs.declared.Refusal.{Refusal}
-use Rattle.roster.specs.declared.Ruling.TheVariants as ruling
 use Rattle.roster.specs.declared.Verdict.TheVariants.{Yes, No, Undecided, Refused}
 use Rattle.roster.specs.declared.Reply.{Reply}
 use Rattle.roster.specs.Meaning.{CrewList, Holds, FirstBlocker}
@@ -15,10 +14,10 @@ use Rattle.absences.specs.Tried.{Way, tried, Found, weighed}
 
 -- "Refused, first that applies"; what nothing applies to is admitted
 abbrev pub Refuses : Table → ℕ → ℕ → ℕ → ℕ → ℕ → Refusal → Type 0
-Refuses table P s d t ed refusal = policy_ruling table.rows P s d t ed ≡ ruling.Refused refusal
+Refuses table P s d t ed refusal = policy_ruling table.rows P s d t ed ≡ Err refusal
 
 abbrev pub Admits : Table → ℕ → ℕ → ℕ → ℕ → ℕ → Type 0
-Admits table P s d t ed = policy_ruling table.rows P s d t ed ≡ ruling.Admitted
+Admits table P s d t ed = policy_ruling table.rows P s d t ed ≡ Ok tt
 
 -- what trying its absences comes to, by this search
 abbrev pub found : Way → Table → ℕ → ℕ → ℕ → ℕ → ℕ → Found

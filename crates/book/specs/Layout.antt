@@ -1,9 +1,8 @@
 -- 01, "The roster book", and requests 04 and 08: the bytes of a book as a function of its form, permissions, rows and policies, and which values are
 -- admitted. A good book is the layout of admitted values. Nothing here is proved: these are definitions.
-use Rattle.std.specs.Prelude.{◌≡◌, Bool, true, false, List, [], ◌∷◌, ◌++◌, ℕ, zero, suc, ◌/◌, ◌%◌, ◌^◌, ◌≤◌, ◌<◌, length}
+use Rattle.std.specs.Prelude.{◌≡◌, Bool, true, false, List, [], ◌∷◌, ◌++◌, ℕ, zero, suc, ◌/◌, ◌%◌, ◌^◌, ◌≤◌, ◌<◌, length, Ok}
 use Rattle.roster.specs.Limits.{row_limit}
 use Rattle.roster.specs.Refusals.{own_ruling}
-use Rattle.roster.specs.declared.Ruling.TheVariants as ruling
 use Rattle.roster.specs.declared.Policy.{Policy}
 use Rattle.book.specs.declared.Form.{Form}
 use Rattle.book.specs.declared.Form.TheVariants.{Old, Persons, Editions}
@@ -132,7 +131,7 @@ Ascends key (x ∷ l) = Below key x l × Ascends key l
 -- What a policy of the book may be: P within the listed permissions, and none of the faults 2, 3, 4, 5, 25.
 pub record PolicyFits (listed : ℕ) (p : Policy) : Type 0 where
   pub task : p.task < 2 ^ listed
-  pub sound : own_ruling p ≡ ruling.Admitted
+  pub sound : own_ruling p ≡ Ok tt
 
 -- Which values a book may have, a field for each rule.
 pub record Admitted (v : Contents) : Type 0 where

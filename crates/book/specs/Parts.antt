@@ -1,11 +1,9 @@
 -- 01, "The roster book": what a book's parts are, for every byte string: the codes, the accounts, the policies, and each row by its number. A
 -- refused book has no parts: its sections are taken to start at its end, where no count stands. Nothing here is proved: these are definitions.
-use Rattle.std.specs.Prelude.{true, false, List, [], ◌∷◌, ℕ, zero, suc, ◌+◌, ◌*◌, leb, ltb, length}
+use Rattle.std.specs.Prelude.{true, false, List, [], ◌∷◌, ℕ, zero, suc, ◌+◌, ◌*◌, leb, ltb, length, Err, Ok, Result}
 use Rattle.sets.specs.Arrays.{tabulate}
 use Rattle.roster.specs.Limits.{row_limit}
 use Rattle.roster.specs.Refusals.{made}
-use Rattle.roster.specs.declared.Made.{Made}
-use Rattle.roster.specs.declared.Made.TheVariants as variants
 use Rattle.accounts.specs.declared.Accounts.{Accounts}
 use Rattle.book.specs.Layout.{Contents}
 use Rattle.book.specs.Reading.{Kind, codes, rows_of, policies_of, width, entry_at, count_at, past, form_of, front, read_of}
@@ -23,6 +21,8 @@ use Rattle.book.specs.declared.Seen.TheVariants as seen
 use Rattle.book.specs.declared.Book.{Book}
 use Rattle.book.specs.declared.Listed.{Listed}
 use Rattle.book.specs.declared.Listed.TheVariants as listed
+use Rattle.roster.specs.declared.Refusal.{Refusal}
+use Rattle.roster.specs.declared.Policy.{Policy}
 
 -- ---- the values of a book
 
@@ -125,9 +125,9 @@ accounts_in book = accounts_at book (starts_in book)
 unfoldable pub policy_count_of : List ℕ → ℕ
 policy_count_of book = count_at book (starts_in book).policies
 
-abbrev pub listed_by : Made → Listed
-listed_by (variants.Policy p) = listed.Policy p
-listed_by (variants.Refused refusal) = listed.NoSuchPolicy
+abbrev pub listed_by : Result Policy Refusal → Listed
+listed_by (Ok p) = listed.Policy p
+listed_by (Err refusal) = listed.NoSuchPolicy
 
 abbrev pub policy_from : List ℕ → Place → Listed
 policy_from book (place.At at) = listed_by (made (entry_at (policies_of (form_of book)) book at))

@@ -1,12 +1,10 @@
 -- 01, "The roster book", its last paragraph, and request 05: the book is read from the front, and the first fault is refused with its number and
 -- the place of the count or field concerned. Every count and every entry is looked at, in the order of the bytes; what is looked at stands in a
 -- list, and the reply is its first fault. Nothing here is proved: these are definitions, and they run.
-use Rattle.std.specs.Prelude.{Bool, true, false, List, [], ◌∷◌, ◌++◌, ℕ, zero, suc, ◌+◌, ◌*◌, ◌^◌, eqb, leb, ltb, length, get_or}
+use Rattle.std.specs.Prelude.{Bool, true, false, List, [], ◌∷◌, ◌++◌, ℕ, zero, suc, ◌+◌, ◌*◌, ◌^◌, eqb, leb, ltb, length, get_or, Err, Ok, Result}
 use Rattle.std.proofs.Math.Option.{Option, some, none}
 use Rattle.roster.specs.Limits.{row_limit}
 use Rattle.roster.specs.Refusals.{outside, made}
-use Rattle.roster.specs.declared.Made.{Made}
-use Rattle.roster.specs.declared.Made.TheVariants as variants
 use Rattle.roster.specs.declared.Policy.{Policy}
 use Rattle.roster.specs.declared.Refusal.{Refusal}
 use Rattle.roster.specs.declared.Refusal.TheVariants as refusal
@@ -127,9 +125,9 @@ field_of refusal.Size = 3
 field_of refusal.Absence = 0
 field_of refusal.Edition = 4
 
-abbrev pub by_made : Made → Amiss
-by_made (variants.Policy p) = amiss.Nothing
-by_made (variants.Refused r) = amiss.Field (fault.Policy r) (field_of r)
+abbrev pub by_made : Result Policy Refusal → Amiss
+by_made (Ok p) = amiss.Nothing
+by_made (Err r) = amiss.Field (fault.Policy r) (field_of r)
 
 -- "older books are edition 1"
 abbrev pub edition_with : Bool → List ℕ → ℕ

@@ -13,7 +13,7 @@ ghost use Rattle.book.specs.Promises.{ViewOf};
 ghost use Rattle.book.specs.Inner.Steps.{width_in, read_policies, read_rows};
 
 use accounts::Accounts;
-use roster::{Made, Policy, Refusal};
+use roster::{Policy, Refusal};
 use sections::{count_at, cut, policy_from, row_from, section_step, two, width};
 
 // Permissions of a book at most; a row's holdings have a bit for each.
@@ -381,8 +381,8 @@ pub fn policy_in(book: &[u8], start: usize, i: usize) -> Listed
     let form = form_of(book);
     match place_of(book, form, Section::Policies, start, i) {
         Place::At(at) => match policy_from(book, form, at) {
-            Made::Policy(policy) => Listed::Policy(policy),
-            Made::Refused(_) => Listed::NoSuchPolicy,
+            Ok(policy) => Listed::Policy(policy),
+            Err(_) => Listed::NoSuchPolicy,
         },
         Place::Nothing => Listed::NoSuchPolicy,
     }

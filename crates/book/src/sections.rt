@@ -6,7 +6,7 @@ ghost use Rattle.book.specs.Reading.{number, past_listed, row_amiss, holdings_fi
 ghost use Rattle.book.specs.Inner.Steps.{width_in, lead_in, stays_in, out_in, count_fault_in, count_amiss_in, count_in, made_at, look_in, past_entry, step_from, start_at, step_in};
 
 use crate::{Amiss, Before, Cursor, Fault, Form, Look, PERMISSIONS, POLICIES, Row, Section, Step};
-use roster::{Made, Policy, Refusal};
+use roster::{Policy, Refusal};
 
 // The width of a code, in bytes.
 const CODE_WIDTH: usize = 2;
@@ -296,7 +296,7 @@ fn edition_from(book: &[u8], form: Form, at: usize) -> u32
 }
 
 // The policy whose fields stand here, or its own first fault.
-pub(crate) fn policy_from(book: &[u8], form: Form, at: usize) -> Made
+pub(crate) fn policy_from(book: &[u8], form: Form, at: usize) -> Result<Policy, Refusal>
     requires { at + width (policies_of form) < 2 ^ 64 }
     ensures { result ≡ made_at form book.now at }
 {
@@ -360,11 +360,11 @@ fn look_policy(book: &[u8], form: Form, listed: usize, at: usize) -> Look
         return Look::Faulty(Fault::Task, at);
     }
     match policy_from(book, form, at) {
-        Made::Refused(refusal) => {
+        Err(refusal) => {
             let place = at + policy_offset(refusal);
             Look::Faulty(Fault::Policy(refusal), place)
         }
-        Made::Policy(_) => Look::Sound,
+        Ok(_) => Look::Sound,
     }
 }
 

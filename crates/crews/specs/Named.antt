@@ -1,10 +1,8 @@
 -- The question for one named absence: what it is allowed to reply. Nothing here is proved: these are definitions.
-use Rattle.std.specs.Prelude.{◌≡◌, true, false, List, ℕ, ◌≤◌, ◌<◌, leb}
+use Rattle.std.specs.Prelude.{◌≡◌, true, false, List, ℕ, ◌≤◌, ◌<◌, leb, Err, Ok, Result}
 use Rattle.roster.specs.declared.Table.{Table}
 use Rattle.roster.specs.declared.Policy.{Policy}
 use Rattle.roster.specs.declared.Refusal.{Refusal}
-use Rattle.roster.specs.declared.Ruling.{Ruling}
-use Rattle.roster.specs.declared.Ruling.TheVariants as ruling
 use Rattle.roster.specs.declared.Verdict.{Verdict}
 use Rattle.roster.specs.declared.Verdict.TheVariants.{Undecided, Crews, None, Refused}
 use Rattle.roster.specs.declared.Reply.{Reply}
@@ -23,14 +21,14 @@ first_list table P d t ed A = (filling table P d t ed A).crews
 
 -- what may come back where filling comes to o, a field for each row of the table "What comes back"
 pub record NamedReplyBy (o : Outcome) (table : Table) (P d t ed A allowance : ℕ) (r : Reply) : Type 0 where
-  pub refused : (refusal : Refusal) → named_ruling table.rows P d t ed A ≡ ruling.Refused refusal
+  pub refused : (refusal : Refusal) → named_ruling table.rows P d t ed A ≡ Err refusal
       → r ≡ reply_with no_crews 0 0 allowance (Refused refusal)
-  pub undecided : named_ruling table.rows P d t ed A ≡ ruling.Admitted → allowance < o.need
+  pub undecided : named_ruling table.rows P d t ed A ≡ Ok tt → allowance < o.need
       → r ≡ reply_with no_crews 0 o.need allowance Undecided
-  pub crews : named_ruling table.rows P d t ed A ≡ ruling.Admitted → o.need ≤ allowance
+  pub crews : named_ruling table.rows P d t ed A ≡ Ok tt → o.need ≤ allowance
       → (list : List ℕ) → CrewList table P d t ed A list
       → r ≡ reply_with o.crews 0 o.need allowance Crews
-  pub none : named_ruling table.rows P d t ed A ≡ ruling.Admitted → o.need ≤ allowance → Blocks table P d t ed A
+  pub none : named_ruling table.rows P d t ed A ≡ Ok tt → o.need ≤ allowance → Blocks table P d t ed A
       → r ≡ reply_with no_crews 0 o.need allowance None
 
 abbrev pub NamedReply : Table → ℕ → ℕ → ℕ → ℕ → ℕ → ℕ → Reply → Type 0
@@ -55,9 +53,9 @@ verdict_by allowance o =
     ]
 
 -- the reply by the ruling too
-abbrev pub reply_by : ℕ → Outcome → Ruling → Reply
-reply_by allowance o ruling.Admitted = reply_with o.crews 0 o.need allowance (verdict_by allowance o)
-reply_by allowance o (ruling.Refused refusal) = reply_with no_crews 0 0 allowance (Refused refusal)
+abbrev pub reply_by : ℕ → Outcome → Result Unit Refusal → Reply
+reply_by allowance o (Ok tt) = reply_with o.crews 0 o.need allowance (verdict_by allowance o)
+reply_by allowance o (Err refusal) = reply_with no_crews 0 0 allowance (Refused refusal)
 
 abbrev pub named_reply_of : Table → ℕ → ℕ → ℕ → ℕ → ℕ → ℕ → Reply
 named_reply_of table P d t ed A allowance = reply_by allowance (filling table P d t ed A) (named_ruling table.rows P d t ed A)

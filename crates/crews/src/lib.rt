@@ -16,7 +16,7 @@ ghost use Rattle.roster.specs.Replies.{no_crews};
 ghost use Rattle.crews.specs.declared.Ending.TheVariants.{Complete};
 ghost use Rattle.crews.specs.Named.{NamedReplyFor};
 
-use roster::{Policy, Reply, Ruling, Table};
+use roster::{Policy, Reply, Table};
 
 // The half-filled crews: those closed, the one being filled, the rows neither absent nor placed, what the crew being filled holds, and the
 // lowest row that may begin the next crew. The crew being filled is a field of its own because it changes with each row: written into the
@@ -378,8 +378,8 @@ pub fn ask_named(table: Table, policy: Policy, absent: u64, allowance: u32) -> R
 {
     let rows = table.rows;
     match roster::named_ruling(rows, policy, absent) {
-        Ruling::Refused(refusal) => Reply::refused(refusal),
-        Ruling::Admitted => {
+        Err(refusal) => Reply::refused(refusal),
+        Ok(()) => {
             let holds = holdings_within(table, policy.task);
             let holders = holders_of(&holds);
             reply_of(fill(

@@ -1,7 +1,7 @@
 -- 01's book B: its whole sheet, those of the same staff with persons and with editions, those of the two refused books, and that of a book that asks
 -- nothing. The
 -- persons and the searches are computed by running the definitions; `sheet_laid` says that the sheet of a book's bytes is that of its values.
-use Rattle.std.specs.Prelude.{◌≡◌, refl, List, [], ◌∷◌, ◌++◌, ℕ}
+use Rattle.std.specs.Prelude.{◌≡◌, refl, List, [], ◌∷◌, ◌++◌, ℕ, Ok}
 use Rattle.std.proofs.Common.{sym, ap, ◌∙◌, arith}
 use Rattle.std.specs.Int.Count.{ones, ones_in, count_trailing_zeros}
 use Rattle.sets.specs.Sets.{bit}
@@ -10,7 +10,6 @@ use Rattle.sets.specs.Members.{cons?, members, filter, hasb, set_of}
 use Rattle.roster.specs.Meaning.{least_members, outweighsb, ahead, rank}
 use Rattle.roster.specs.Refusals.{policy_ruling, own_ruling}
 use Rattle.roster.specs.declared.Policy.{Policy}
-use Rattle.roster.specs.declared.Ruling.TheVariants as ruling
 use Rattle.crews.specs.Filling.{place_of, close_of, closes_of, placed_of, pool_of, candidates, try_each, search}
 use Rattle.sets.specs.Arrays.{tabulate}
 use Rattle.absences.specs.Tried.{row_from, joins, listed, sizes_from, weighed}
@@ -43,13 +42,13 @@ use Rattle.lines.specs.Laws.Laid.{lines_over, sheet_laid}
 b_policies : Each (PolicyFits 2) (policies_b 1 1 1)
 unfolding Each policy_ruling
 b_policies =
-    let fits : (p : Policy) → p.task ≡ 3 → own_ruling p ≡ ruling.Admitted → PolicyFits 2 p = λ p e h. record { task = omega arith; sound = h } in
+    let fits : (p : Policy) → p.task ≡ 3 → own_ruling p ≡ Ok tt → PolicyFits 2 p = λ p e h. record { task = omega arith; sound = h } in
     (fits _ refl refl, (fits _ refl refl, (fits _ refl refl, tt)))
 
 editions_b_policies : Each (PolicyFits 2) (policies_b 1 2 2)
 unfolding Each policy_ruling
 editions_b_policies =
-    let fits : (p : Policy) → p.task ≡ 3 → own_ruling p ≡ ruling.Admitted → PolicyFits 2 p = λ p e h. record { task = omega arith; sound = h } in
+    let fits : (p : Policy) → p.task ≡ 3 → own_ruling p ≡ Ok tt → PolicyFits 2 p = λ p e h. record { task = omega arith; sound = h } in
     (fits _ refl refl, (fits _ refl refl, (fits _ refl refl, tt)))
 
 b_admitted : Admitted values_b

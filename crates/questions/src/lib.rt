@@ -7,15 +7,15 @@ ghost use Rattle.absences.specs.Tried.{full, skipping};
 ghost use Rattle.questions.specs.Asked.{PolicyAskedFor, NamedAskedFor};
 
 use accounts::Accounts;
-use roster::{Policy, Reply, Ruling};
+use roster::{Policy, Reply};
 
 // The policy question by the search that tries only the absences worth trying.
 pub fn ask_skipping(accounts: Accounts, policy: Policy, allowance: u32) -> Reply
     ensures { PolicyAskedFor skipping accounts policy allowance result }
 {
     match accounts::ruling(accounts) {
-        Ruling::Refused(refusal) => Reply::refused(refusal),
-        Ruling::Admitted => {
+        Err(refusal) => Reply::refused(refusal),
+        Ok(()) => {
             let people = accounts::merged(accounts);
             let table = people.table;
             absences::ask_skipping(table, policy, allowance)
@@ -28,8 +28,8 @@ pub fn ask_full(accounts: Accounts, policy: Policy, allowance: u32) -> Reply
     ensures { PolicyAskedFor full accounts policy allowance result }
 {
     match accounts::ruling(accounts) {
-        Ruling::Refused(refusal) => Reply::refused(refusal),
-        Ruling::Admitted => {
+        Err(refusal) => Reply::refused(refusal),
+        Ok(()) => {
             let people = accounts::merged(accounts);
             let table = people.table;
             absences::ask_full(table, policy, allowance)
@@ -42,8 +42,8 @@ pub fn ask_named(accounts: Accounts, policy: Policy, absent: u64, allowance: u32
     ensures { NamedAskedFor accounts policy absent allowance result }
 {
     match accounts::ruling(accounts) {
-        Ruling::Refused(refusal) => Reply::refused(refusal),
-        Ruling::Admitted => {
+        Err(refusal) => Reply::refused(refusal),
+        Ok(()) => {
             let people = accounts::merged(accounts);
             let table = people.table;
             crews::ask_named(table, policy, absent, allowance)

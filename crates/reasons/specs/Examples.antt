@@ -1,26 +1,16 @@
 -- "Why" as one table of questions with their replies and the published number of each, and one theorem: each of these replies is the one that the
 -- contract allows, and the numbers are theirs. The definitions run on them.
-use Rattle.std.specs.Prelude.{◌≡◌, refl, Bool, true, List, [], ◌∷◌, ◌++◌, map, ℕ, ◌^◌, ltb, length}
-use Rattle.std.proofs.Common.{subst, ltb-true}
-use Rattle.std.specs.Int.Count.{ones, ones_in, count_trailing_zeros}
-use Rattle.sets.specs.Sets.{bit}
-use Rattle.sets.specs.Sums.{sum_to, to_n}
-use Rattle.sets.specs.Members.{cons?, members, filter, hasb, set_of}
-use Rattle.sets.specs.Arrays.{tabulate}
+use Rattle.std.specs.Prelude.{◌≡◌, Bool, List, [], ◌∷◌, ◌++◌, ℕ, ◌^◌, ltb, length}
 use Rattle.roster.specs.declared.Refusal.TheVariants as refusal
-use Rattle.roster.specs.Meaning.{least_members}
-use Rattle.roster.specs.Refusals.{policy_ruling}
 use Rattle.roster.specs.Examples.{set_of_rows}
-use Rattle.crews.specs.Filling.{place_of, close_of, closes_of, placed_of, pool_of, candidates, try_each, search}
 use Rattle.accounts.specs.declared.Accounts.{Accounts}
-use Rattle.accounts.specs.Persons.{first, union_to, first_of, leads, count_of, person_of, held_by}
 use Rattle.accounts.specs.Examples.{accounts_with}
 use Rattle.reasons.specs.declared.Explanation.{Explanation}
 use Rattle.reasons.specs.declared.Explanation.TheVariants.{Scarce, NoCrew, Overlap, Nothing, Undecided, Refused}
 use Rattle.reasons.specs.declared.Explained.{Explained}
 use Rattle.reasons.specs.Reasons.{reason_number}
 use Rattle.reasons.specs.Replies.{explained_with, WhyReply}
-use Rattle.reasons.specs.Replied.{scarce_in, why_reply_of}
+use Rattle.reasons.specs.Replied.{why_reply_of}
 
 -- ---- how the table is written
 

@@ -1,13 +1,12 @@
 -- What the functions below `why` ask. Only proofs need it.
-use Rattle.std.specs.Prelude.{◌≡◌, ℕ, ◌≤◌}
+use Rattle.std.specs.Prelude.{◌≡◌, ℕ, ◌≤◌, Ok}
 use Rattle.roster.specs.declared.Table.{Table}
-use Rattle.roster.specs.declared.Ruling.TheVariants as ruling
 use Rattle.roster.specs.Meaning.{Blocks}
 use Rattle.roster.specs.Refusals.{named_ruling}
 use Rattle.crews.specs.Named.{need_named}
 
 -- what is known where a reason is looked for: the question is admitted and decided, and the absence blocks
 pub record Stuck (table : Table) (P d t ed A allowance : ℕ) : Type 0 where
-  pub admitted : named_ruling table.rows P d t ed A ≡ ruling.Admitted
+  pub admitted : named_ruling table.rows P d t ed A ≡ Ok tt
   pub decided : need_named table P d t ed A ≤ allowance
   pub blocks : Blocks table P d t ed A

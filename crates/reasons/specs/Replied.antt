@@ -1,11 +1,9 @@
 -- The reply to "why" as a definition that runs: `why_allowed` shows that it is allowed for every input, `why_same` that no other is. Nothing here is
 -- proved: these are definitions.
-use Rattle.std.specs.Prelude.{Bool, true, false, ◌&&◌, ℕ, leb, ltb}
+use Rattle.std.specs.Prelude.{Bool, true, false, ◌&&◌, ℕ, leb, ltb, Err, Ok, Result}
 use Rattle.std.specs.Int.Count.{ones}
 use Rattle.sets.specs.Members.{hasb}
 use Rattle.roster.specs.declared.Table.{Table}
-use Rattle.roster.specs.declared.Ruling.{Ruling}
-use Rattle.roster.specs.declared.Ruling.TheVariants as ruling
 use Rattle.crews.specs.Filling.{Outcome, filling}
 use Rattle.accounts.specs.declared.Accounts.{Accounts}
 use Rattle.accounts.specs.Persons.{first, merged}
@@ -15,6 +13,7 @@ use Rattle.reasons.specs.declared.Explanation.TheVariants.{Scarce, NoCrew, Overl
 use Rattle.reasons.specs.declared.Explained.{Explained}
 use Rattle.reasons.specs.Reasons.{holders_here}
 use Rattle.reasons.specs.Replies.{explained_with}
+use Rattle.roster.specs.declared.Refusal.{Refusal}
 
 -- whether p is a permission of P, and the set of those who are there for it has fewer than d members
 unfoldable pub scarce_in : (ℕ → ℕ) → (P d p : ℕ) → Bool
@@ -36,9 +35,9 @@ abbrev pub reason_of : Table → (P d t ed A : ℕ) → Explanation
 reason_of table P d t ed A = reason_by (lowest_scarce table P d A) (filling table P 1 t ed A)
 
 -- the reply under this ruling and allowance, where filling comes to o and the reason is this one
-abbrev pub explained_by : Ruling → ℕ → Outcome → Explanation → Explained
-explained_by (ruling.Refused refusal) allowance o reason = explained_with (Refused refusal) 0
-explained_by ruling.Admitted allowance o reason =
+abbrev pub explained_by : Result Unit Refusal → ℕ → Outcome → Explanation → Explained
+explained_by (Err refusal) allowance o reason = explained_with (Refused refusal) 0
+explained_by (Ok tt) allowance o reason =
     elim (leb o.need allowance) [
       | true ↦ explained_with (elim o.found [ true ↦ Nothing | false ↦ reason ]) o.need
       | false ↦ explained_with Undecided allowance

@@ -1,11 +1,10 @@
 -- What a reply to "why" tells, said of persons and their accounts with no word of merging but in the need: `why_told` shows that each reply that may
 -- come back does. Nothing here is proved: these are definitions.
-use Rattle.std.specs.Prelude.{◌≡◌, ◌↔◌, List, ℕ, ◌≤◌, ◌<◌}
+use Rattle.std.specs.Prelude.{◌≡◌, ◌↔◌, List, ℕ, ◌≤◌, ◌<◌, Err, Ok}
 use Rattle.std.specs.Int.Count.{ones}
 use Rattle.sets.specs.Sets.{bit, Has}
 use Rattle.sets.specs.Arrays.{at}
 use Rattle.roster.specs.declared.Refusal.{Refusal}
-use Rattle.roster.specs.declared.Ruling.TheVariants as ruling
 use Rattle.roster.specs.declared.Reply.{Reply}
 use Rattle.accounts.specs.declared.Accounts.{Accounts}
 use Rattle.accounts.specs.Persons.{rows_of, person}
@@ -37,11 +36,11 @@ GivesReason r = 1 ≤ reason_number r.why
 
 -- nothing is refused of the question
 abbrev pub Admits : Accounts → (P d t ed A : ℕ) → Type 0
-Admits a P d t ed A = persons_ruling a P d t ed A ≡ ruling.Admitted
+Admits a P d t ed A = persons_ruling a P d t ed A ≡ Ok tt
 
 pub record Tells (a : Accounts) (P d t ed A allowance : ℕ) (r : Explained) : Type 0 where
   -- refused as the named question is
-  pub refused : (refusal : Refusal) → (r.why ≡ Refused refusal) ↔ (persons_ruling a P d t ed A ≡ ruling.Refused refusal)
+  pub refused : (refusal : Refusal) → (r.why ≡ Refused refusal) ↔ (persons_ruling a P d t ed A ≡ Err refusal)
   -- undecided exactly if the allowance is below the need of the named question
   pub undecided : (r.why ≡ Undecided) ↔ (Admits a P d t ed A × (allowance < need_why a P d t ed A))
   -- else nothing to explain exactly if there are crews

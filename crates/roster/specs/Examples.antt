@@ -1,6 +1,6 @@
 -- What the definitions say of plain cases, as one table of questions with their answers, and one theorem: the definitions, run, give these
 -- answers. It is there so that a definition and the code that goes by it cannot be changed together unseen.
-use Rattle.std.specs.Prelude.{◌≡◌, refl, Bool, List, [], ◌∷◌, ◌++◌, map, ℕ, ◌+◌, ◌-◌, ◌^◌, length, replicate}
+use Rattle.std.specs.Prelude.{◌≡◌, refl, Bool, List, [], ◌∷◌, ◌++◌, map, ℕ, ◌+◌, ◌-◌, ◌^◌, length, replicate, Err, Ok, Result}
 use Rattle.std.specs.Int.Count.{ones, ones_in}
 use Rattle.sets.specs.Sets.{bit}
 use Rattle.sets.specs.Sums.{sum_to, to_n}
@@ -9,11 +9,7 @@ use Rattle.sets.specs.Arrays.{tabulate}
 use Rattle.sets.proofs.Laws.Image.{image, put}
 use Rattle.roster.specs.declared.Table.{Table}
 use Rattle.roster.specs.declared.Policy.{Policy}
-use Rattle.roster.specs.declared.Made.{Made}
-use Rattle.roster.specs.declared.Made.TheVariants as made
 use Rattle.roster.specs.declared.Refusal.TheVariants.{Size}
-use Rattle.roster.specs.declared.Ruling.{Ruling}
-use Rattle.roster.specs.declared.Ruling.TheVariants as ruling
 use Rattle.roster.specs.declared.Verdict.{Verdict}
 use Rattle.roster.specs.declared.Verdict.TheVariants.{Yes, No, Undecided, Crews, None, Refused}
 use Rattle.roster.specs.declared.Reply.{Reply}
@@ -22,6 +18,7 @@ use Rattle.roster.specs.Meaning.{outweighsb, ahead, rank}
 use Rattle.roster.specs.Refusals.{number_of, policy_ruling, named_ruling, made_of}
 use Rattle.roster.specs.Replies.{reply_with}
 use Rattle.roster.specs.Laws.Lists.{ranks}
+use Rattle.roster.specs.declared.Refusal.{Refusal}
 
 -- ---- how the table is written
 
@@ -256,13 +253,13 @@ examples = policies ++ policies-at_fault ++ names ++ names-at_fault ++ policies-
 
 -- ---- the fact
 
-abbrev told : Ruling → Answer
-told ruling.Admitted = admitted
-told (ruling.Refused refusal) = refused (number_of refusal)
+abbrev told : Result Unit Refusal → Answer
+told (Ok tt) = admitted
+told (Err refusal) = refused (number_of refusal)
 
-abbrev told-made : Made → Answer
-told-made (made.Policy p) = makes p
-told-made (made.Refused refusal) = refused (number_of refusal)
+abbrev told-made : Result Policy Refusal → Answer
+told-made (Ok p) = makes p
+told-made (Err refusal) = refused (number_of refusal)
 
 -- the table's rows that pass
 abbrev below : Table → (ℕ → Bool) → List ℕ

@@ -38,20 +38,6 @@ pub enum Refusal {
     Edition,
 }
 
-// What looking over a question's numbers finds: nothing amiss, or the first fault in the fixed order.
-#[derive(Clone, Copy)]
-pub enum Ruling {
-    Admitted,
-    Refused(Refusal),
-}
-
-// What the checked constructor of a policy answers.
-#[derive(Clone, Copy)]
-pub enum Made {
-    Policy(Policy),
-    Refused(Refusal),
-}
-
 // What a question is answered with. `Crews` and `None` answer a named absence, `Yes` and `No` a policy.
 #[derive(Clone, Copy)]
 pub enum Verdict {
@@ -85,7 +71,7 @@ impl Policy {
     pub const EDITIONS: u32 = 2;
 
     // The policy, or the first of its own faults.
-    pub fn new(task: u32, away: u32, crews: usize, size: u32, edition: u32) -> Made
+    pub fn new(task: u32, away: u32, crews: usize, size: u32, edition: u32) -> Result<Policy, Refusal>
         ensures made { result ≡ made_of task away crews size edition }
         ensures rows { Policy.ROWS ≡ row_limit }
         ensures away { Policy.AWAY ≡ away_limit }
@@ -93,16 +79,14 @@ impl Policy {
         ensures size { Policy.SIZE ≡ size_limit }
         ensures editions { Policy.EDITIONS ≡ edition_limit }
     {
-        match first_fault(0, task, away, crews, size, edition) {
-            Ruling::Admitted => Made::Policy(Policy {
-                task: task,
-                away: away,
-                crews: crews,
-                size: size,
-                edition: edition,
-            }),
-            Ruling::Refused(refusal) => Made::Refused(refusal),
-        }
+        first_fault(0, task, away, crews, size, edition)?;
+        Ok(Policy {
+            task,
+            away,
+            crews,
+            size,
+            edition,
+        })
     }
 }
 
@@ -211,41 +195,41 @@ pub fn least_members(edition: u32) -> u32
 
 // The first fault of these numbers.
 #[tactic(auto, unfolding(crate::specs::Refusals::policy_ruling))]
-fn first_fault(rows: usize, task: u32, away: u32, crews: usize, size: u32, edition: u32) -> Ruling
+fn first_fault(rows: usize, task: u32, away: u32, crews: usize, size: u32, edition: u32) -> Result<(), Refusal>
     ensures { result ≡ policy_ruling rows task away crews size edition }
 {
     if rows > Policy::ROWS {
-        return Ruling::Refused(Refusal::Rows);
+        return Err(Refusal::Rows);
     }
     if task == 0 {
-        return Ruling::Refused(Refusal::Task);
+        return Err(Refusal::Task);
     }
     if away > Policy::AWAY {
-        return Ruling::Refused(Refusal::Away);
+        return Err(Refusal::Away);
     }
     if crews == 0 {
-        return Ruling::Refused(Refusal::Crews);
+        return Err(Refusal::Crews);
     }
     if crews > Policy::CREWS {
-        return Ruling::Refused(Refusal::Crews);
+        return Err(Refusal::Crews);
     }
     if size == 0 {
-        return Ruling::Refused(Refusal::Size);
+        return Err(Refusal::Size);
     }
     if size > Policy::SIZE {
-        return Ruling::Refused(Refusal::Size);
+        return Err(Refusal::Size);
     }
     if edition == 0 {
-        return Ruling::Refused(Refusal::Edition);
+        return Err(Refusal::Edition);
     }
     if edition > Policy::EDITIONS {
-        return Ruling::Refused(Refusal::Edition);
+        return Err(Refusal::Edition);
     }
-    Ruling::Admitted
+    Ok(())
 }
 
 // The first fault of a policy question.
-pub fn policy_ruling(rows: usize, policy: Policy) -> Ruling
+pub fn policy_ruling(rows: usize, policy: Policy) -> Result<(), Refusal>
     ensures { result ≡ ruling_of rows policy }
 {
     first_fault(
@@ -269,25 +253,20 @@ fn past_rows(rows: usize, set: u64) -> bool
 }
 
 // The first fault of a question for a named absence, which does not look at how many may be away.
-pub fn named_ruling(rows: usize, policy: Policy, absent: u64) -> Ruling
+pub fn named_ruling(rows: usize, policy: Policy, absent: u64) -> Result<(), Refusal>
     ensures { result ≡ named_ruling_of rows policy absent }
 {
     let away = 0;
-    match first_fault(
+    first_fault(
         rows,
         policy.task,
         away,
         policy.crews,
         policy.size,
         policy.edition,
-    ) {
-        Ruling::Refused(refusal) => Ruling::Refused(refusal),
-        Ruling::Admitted => {
-            if past_rows(rows, absent) {
-                Ruling::Refused(Refusal::Absence)
-            } else {
-                Ruling::Admitted
-            }
-        }
+    )?;
+    if past_rows(rows, absent) {
+        return Err(Refusal::Absence);
     }
+    Ok(())
 }

@@ -13,7 +13,7 @@ ghost use Rattle.values.specs.Inner.Looks.{limit_in, count_of, code_in, row_in, 
 use crate::{First, Values};
 use book::sections::{count_amiss, past_listed, policy_field, row_amiss};
 use book::{Amiss, Fault, Form, Row, Section};
-use roster::{Made, Policy};
+use roster::Policy;
 
 // As a wider number.
 fn wide(code: u16) -> u32
@@ -151,8 +151,8 @@ fn policy_look(listed: usize, policy: Policy) -> Amiss
         policy.size,
         policy.edition,
     ) {
-        Made::Refused(refusal) => Amiss::Field(Fault::Policy(refusal), policy_field(refusal)),
-        Made::Policy(_) => Amiss::Nothing,
+        Err(refusal) => Amiss::Field(Fault::Policy(refusal), policy_field(refusal)),
+        Ok(_) => Amiss::Nothing,
     }
 }
 

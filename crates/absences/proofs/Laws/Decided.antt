@@ -1,7 +1,7 @@
 -- Each policy question falls under one row of the table "What comes back", by whichever search. The idea: `tried_sound`, `tried-complete` and
 -- `tried_ascending` say what the list is, exactness of the filling that its test is `Blocks`, and the swap (`first-tried`, `first_blocker_worth`,
 -- `none-worth-none`) that leaving out what is not worth trying loses neither the first blocker nor a "yes". Assumes nothing.
-use Rattle.std.specs.Prelude.{◌≡◌, refl, ◌⊎◌, Bool, true, false, ℕ, ◌^◌, ◌≤◌, ◌<◌}
+use Rattle.std.specs.Prelude.{◌≡◌, refl, ◌⊎◌, Bool, true, false, ℕ, ◌^◌, ◌≤◌, ◌<◌, Err, Ok, Result}
 use Rattle.std.proofs.Common.{ap₂, subst, inl, inr, ⊎_elim, arith, le-leb}
 use Rattle.std.proofs.Math.Decide.{dec_le}
 use Rattle.std.specs.Int.Count.{ones}
@@ -9,8 +9,6 @@ use Rattle.std.proofs.lemmas.Bool.{lt-leb}
 use Rattle.sets.specs.Laws.Sums.{either}
 use Rattle.roster.specs.declared.Table.{Table}
 use Rattle.roster.specs.declared.Refusal.{Refusal}
-use Rattle.roster.specs.declared.Ruling.{Ruling}
-use Rattle.roster.specs.declared.Ruling.TheVariants as ruling
 use Rattle.roster.specs.Meaning.{Blocks, Absence, Holds, Earlier, First, FirstBlocker}
 use Rattle.roster.specs.Refusals.{policy_ruling}
 use Rattle.roster.proofs.Laws.Order.{earlier_irrefl, earlier_trans}
@@ -112,9 +110,9 @@ holds-or-first table P s d t ed fair =
 pub policy_case : (need : ℕ) (table : Table) (P s d t ed : ℕ) → P < 2 ^ 32 → (allowance : ℕ) → Case need table P s d t ed allowance
 policy_case need table P s d t ed wide allowance = under (policy_ruling table.rows P s d t ed) refl
   where
-    under : (r : Ruling) → policy_ruling table.rows P s d t ed ≡ r → Case need table P s d t ed allowance
-    under (ruling.Refused refusal) e = is_refused_lem refusal e
-    under ruling.Admitted e = pick (dec_le need allowance)
+    under : (r : Result Unit Refusal) → policy_ruling table.rows P s d t ed ≡ r → Case need table P s d t ed allowance
+    under (Err refusal) e = is_refused_lem refusal e
+    under (Ok tt) e = pick (dec_le need allowance)
       where
         pick : Dec (need ≤ allowance) → Case need table P s d t ed allowance
         pick (yes l) =

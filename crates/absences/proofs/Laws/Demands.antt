@@ -1,11 +1,10 @@
 -- Demand 2 and demand 3 for the policy question, over all replies that the contracts allow: each question falls under one row of "What comes back"
 -- (`policy_case`), and all else follows from that. Assumes nothing.
-use Rattle.std.specs.Prelude.{◌≡◌, refl, ◌⊎◌, ◌≢◌, ◌↔◌, true, false, List, ℕ, ◌^◌, ◌≤◌, ◌<◌, take}
+use Rattle.std.specs.Prelude.{◌≡◌, refl, ◌⊎◌, ◌≢◌, ◌↔◌, true, false, List, ℕ, ◌^◌, ◌≤◌, ◌<◌, take, Result}
 use Rattle.std.proofs.Common.{sym, ap, ◌∙◌, subst, inl, inr, arith, pow_pos}
 use Rattle.sets.proofs.Sets.{ones_none}
 use Rattle.sets.specs.Laws.Sums.{either}
 use Rattle.roster.specs.declared.Table.{Table}
-use Rattle.roster.specs.declared.Ruling.{Ruling}
 use Rattle.roster.specs.declared.Verdict.{Verdict}
 use Rattle.roster.specs.declared.Verdict.TheVariants.{Yes, No, Undecided, Refused}
 use Rattle.roster.specs.declared.Reply.{Reply}
@@ -23,6 +22,7 @@ use Rattle.absences.specs.Replied.{verdict_of, replied_by, policy_reply_of}
 use Rattle.absences.proofs.Laws.Listed.{tried-complete, tried_ascending}
 use Rattle.absences.proofs.Laws.Decided.{first_picked, first_not_holds, none_blocks, stops_first, one_blocks, verdict_late, verdict_within, Case, is_refused_lem, is_undecided, is_yes, is_no, admitted_fair, policy_case}
 use Rattle.absences.proofs.Laws.Weighed.{tried_thinned, thinned_need}
+use Rattle.roster.specs.declared.Refusal.{Refusal}
 
 -- ---- demand 1: every input has a reply, and only one
 
@@ -51,9 +51,9 @@ module _ (w : Found) (crews : List ℕ) (table : Table) (P s d t ed : ℕ) (one 
       gives : Verdict → Reply
       gives = reply_with crews w.blocker w.need allowance
 
-      under : {r : Ruling} → policy_ruling table.rows P s d t ed ≡ r
+      under : {r : Result Unit Refusal} → policy_ruling table.rows P s d t ed ≡ r
           → replied_by (policy_ruling table.rows P s d t ed) w crews allowance ≡ replied_by r w crews allowance
-      under e = ap (λ (x : Ruling). replied_by x w crews allowance) e
+      under e = ap (λ (x : Result Unit Refusal). replied_by x w crews allowance) e
 
       all_well : Admits table P s d t ed → Holds table P s d t ed → (w.blocked ≡ true) ⊎ (w.blocked ≡ false) → w.blocked ≡ false
       all_well e h (inr b) = b

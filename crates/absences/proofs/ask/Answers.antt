@@ -1,5 +1,6 @@
 -- A refused question is answered by its refusal. For an admitted one, what is worked out of the table is what the search is to be lent
 -- (`lends`, `ranks`), and what it tries is all that 01 lists. Assumes nothing.
+use Rattle.std.specs.Prelude.{Ok}
 use mathlib.Core.Path.{◌≡◌, sym, ap, ◌∙◌}
 use mathlib.Core.List.{List}
 use Prim.Native.Nat.{ℕ, ◌-◌, ◌^◌, ◌≤◌, ◌<◌, min}
@@ -9,7 +10,6 @@ use lib.ListN.{get_or}
 use Rattle.sets.specs.Sets.{below_within}
 use Rattle.roster.specs.declared.Table.{Table}
 use Rattle.roster.specs.Limits.{row_limit}
-use Rattle.roster.specs.declared.Ruling.TheVariants.{Admitted}
 use Rattle.roster.specs.Refusals.{policy_ruling}
 use Rattle.roster.proofs.Laws.Rulings as rulings
 use Rattle.sets.specs.Arrays.{tabulate, at}
@@ -38,8 +38,8 @@ module _ (k : After-counted-counts) where
   abbrev way : Way
   way = way_of k.args.skipping
 
-  admitted : policy_ruling k.args.table.rows k.args.policy.task k.args.policy.away k.args.policy.crews k.args.policy.size k.args.policy.edition ≡ Admitted
-  admitted = sym k.policy_ruling.ensures ∙ k.in-Admitted.is
+  admitted : policy_ruling k.args.table.rows k.args.policy.task k.args.policy.away k.args.policy.crews k.args.policy.size k.args.policy.edition ≡ Ok tt
+  admitted = sym k.policy_ruling.ensures ∙ k.in-Ok.is
 
   -- its numbers are within the limits
   limits : rulings.Within k.args.table.rows k.args.policy.task k.args.policy.away k.args.policy.crews k.args.policy.size k.args.policy.edition
@@ -105,16 +105,16 @@ search_all-requires c =
 
 -- ---- the two replies
 
-pub returns-in-Refused : goal.returns-in-Refused
-returns-in-Refused c =
+pub returns-in-Err : goal.returns-in-Err
+returns-in-Err c =
     let a = c.args in
     c.refused.ensures
     ∙ sym (ruled (way_of a.skipping) a.table a.policy.task a.policy.away a.policy.crews a.policy.size a.policy.edition a.allowance _
-    (sym c.policy_ruling.ensures ∙ c.in-Refused.is))
+    (sym c.policy_ruling.ensures ∙ c.in-Err.is))
 
-pub returns-in-Admitted : goal.returns-in-Admitted
-returns-in-Admitted c =
-    let k = (goal.at.returns-in-Admitted c).After-counted-counts in
+pub returns-in-Ok : goal.returns-in-Ok
+returns-in-Ok c =
+    let k = (goal.at.returns-in-Ok c).After-counted-counts in
     let a = c.args in
     c.search_all.ensures (way k) a.table (lends k c.below.ensures) (ranks k c.ranked-order.result c.ranked-order.ensures c.weights-outweighed.ensures)
     ∙ ap (λ (n : ℕ). searched_by (way k) a.table (searching k c.below.result) n) c.smaller.ensures

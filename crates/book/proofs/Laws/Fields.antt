@@ -1,6 +1,6 @@
 -- Request 05. A refused book's place is the first byte of the field that its fault speaks of, for 11 of the first field that is not whole; no number
 -- moved, and of the places only those of 3, 4, 5, 11, 16 and 25. Assumes nothing.
-use Rattle.std.specs.Prelude.{◌≡◌, ◌⊎◌, Bool, true, false, ltb}
+use Rattle.std.specs.Prelude.{◌≡◌, ◌⊎◌, Bool, true, false, ltb, Err, Ok, Result}
 use Rattle.std.proofs.Math.Path.{refl, subst}
 use Rattle.std.proofs.Common.{sym, ap, ◌∙◌, ltb-true, ltb-false}
 use Rattle.std.proofs.Math.Logic.{inl, inr}
@@ -11,8 +11,6 @@ use Rattle.std.proofs.Math.Nat.{mul-suc}
 use native.Mathlib.Omega.{arith}
 use Rattle.std.proofs.Math.ListN.{length}
 use Rattle.roster.specs.Refusals.{made}
-use Rattle.roster.specs.declared.Made.{Made}
-use Rattle.roster.specs.declared.Made.TheVariants as variants
 use Rattle.roster.specs.declared.Policy.{Policy}
 use Rattle.roster.specs.declared.Refusal.{Refusal}
 use Rattle.roster.specs.declared.Refusal.TheVariants as refusal
@@ -160,9 +158,9 @@ module _ (form : Form) (book : List ℕ) where
       go Persons = omega arith
       go Editions = omega arith
 
-  made_speaks : (m : Made) → Speaks (policies_of form) (starts_of form book).policies (omega arith) (λ at c. inr (inr c)) (by_made m)
-  made_speaks (variants.Policy p) = tt
-  made_speaks (variants.Refused r) = λ at f. f
+  made_speaks : (m : Result Policy Refusal) → Speaks (policies_of form) (starts_of form book).policies (omega arith) (λ at c. inr (inr c)) (by_made m)
+  made_speaks (Ok p) = tt
+  made_speaks (Err r) = λ at f. f
 
   looks_pointed : Each Pointed (looks_by form book)
   unfolding Each
@@ -265,9 +263,9 @@ refusal_leads refusal.Size s = moves 5 (inl (omega arith, omega arith)) s
 refusal_leads refusal.Absence s = refl
 refusal_leads refusal.Edition s = moves 25 (inr (inr (inr refl))) s
 
-made-leads : (m : Made) → Leads (by_made m)
-made-leads (variants.Policy p) = tt
-made-leads (variants.Refused r) = refusal_leads r
+made-leads : (m : Result Policy Refusal) → Leads (by_made m)
+made-leads (Ok p) = tt
+made-leads (Err r) = refusal_leads r
 
 code_leads : (listed : ℕ) (before : Option ℕ) (x : ℕ) → Leads (codes.faults listed before x)
 code_leads listed before x = leads_if (not_above before x) fault.Code 0 amiss.Nothing (λ s. refl) tt

@@ -1,7 +1,7 @@
 -- Older books move in nothing: a book that starts with neither 200 nor 201 is read, laid out and viewed as 01 has it, and one that does not start
 -- with 201 is read as request 04 has it; what starts so was refused before. Every row of an old book is a person of its own, and every policy of an
 -- older book is of the first edition. Assumes nothing.
-use Rattle.std.specs.Prelude.{◌≡◌, refl, ◌≢◌, Bool, true, false, List, [], ◌∷◌, ◌++◌, map, ℕ, zero, suc, ◌+◌, ◌<◌, eqb, ltb, length, get_or}
+use Rattle.std.specs.Prelude.{◌≡◌, refl, ◌≢◌, Bool, true, false, List, [], ◌∷◌, ◌++◌, map, ℕ, zero, suc, ◌+◌, ◌<◌, eqb, ltb, length, get_or, Ok}
 use Rattle.std.proofs.Common.{sym, ap, ap₂, ◌∙◌, arith, eqb-true, eq-eqb, ne_eqb, le-ltb}
 use Rattle.std.proofs.Math.Option.{Option, some, none}
 use Rattle.std.proofs.Math.Decide.{dec_lt}
@@ -11,7 +11,6 @@ use Rattle.roster.specs.Limits.{away_limit, crew_limit, size_limit}
 use Rattle.roster.specs.Refusals.{refused_if, outside, policy_ruling, made_by, made}
 use Rattle.roster.specs.declared.Policy.{Policy}
 use Rattle.roster.specs.declared.Refusal.TheVariants as refusal
-use Rattle.roster.specs.declared.Ruling.TheVariants as ruling
 use Rattle.accounts.specs.Meaning.{Different}
 use Rattle.book.specs.Layout.{Contents, code_widths, row_widths, policy_widths, code_fields, row_fields, policy_fields, field_bytes, joined, section, bytes_of, Below, Ascends, Own, OwnEdition, form_has_persons, form_has_editions, permission_limit, Admitted}
 use Rattle.book.specs.Reading.{fields_at, cut_place, amiss_if, fault_if, placed, past_listed, by_made, codes, rows, policies, entry_at, count_look, entry_look, in_turn, count_at, section_looks, past, form_by, form_of, end_look, first_fault, read_by, read_of}
@@ -60,7 +59,7 @@ of_first p = record { task = p.task; away = p.away; crews = p.crews; size = p.si
 
 -- what is amiss with it is what was: of the first edition there is nothing to say
 policy_amiss : (p : OldPolicy) (a b c d e : Bool)
-    → amiss_if a fault.Task 0 (by_made (made_by (refused_if b refusal.Task (refused_if c refusal.Away (refused_if d refusal.Crews (refused_if e refusal.Size ruling.Admitted)))) (of_first p)))
+    → amiss_if a fault.Task 0 (by_made (made_by (refused_if b refusal.Task (refused_if c refusal.Away (refused_if d refusal.Crews (refused_if e refusal.Size (Ok tt))))) (of_first p)))
     ≡ amiss_if a fault.Task 0 (amiss_if b (fault.Policy refusal.Task) 0 (amiss_if c (fault.Policy refusal.Away) 1
     (amiss_if d (fault.Policy refusal.Crews) 2 (amiss_if e (fault.Policy refusal.Size) 3 amiss.Nothing))))
 policy_amiss p true b c d e = refl

@@ -1,5 +1,5 @@
 -- The form, the codes, the accounts, the policies and the rows of a book are its values; a refused book has none. Assumes nothing.
-use Rattle.std.specs.Prelude.{◌≡◌, refl, List, [], ◌∷◌, length}
+use Rattle.std.specs.Prelude.{◌≡◌, refl, List, [], ◌∷◌, length, Result}
 use Rattle.std.proofs.Common.{sym, ◌∙◌, arith}
 use Rattle.std.proofs.Math.Path.{ap, ap₂, fun_ext}
 use Rattle.std.proofs.Math.Option.{some}
@@ -9,7 +9,6 @@ use Rattle.sets.specs.Arrays.{tabulate}
 use Rattle.roster.specs.Limits.{row_limit}
 use Rattle.roster.specs.Refusals.{made_by}
 use Rattle.roster.specs.declared.Policy.{Policy}
-use Rattle.roster.specs.declared.Ruling.{Ruling}
 use Rattle.accounts.specs.declared.Accounts.{Accounts}
 use Rattle.book.specs.Layout.{Contents, Each, PolicyFits, LayoutOf}
 use Rattle.book.specs.Reading.{codes, rows_of, policies_of, width, entry_at, count_at, form_of, front, read_of, starts_of}
@@ -25,6 +24,7 @@ use Rattle.book.specs.declared.Place.TheVariants.{At, Nothing}
 use Rattle.book.specs.declared.Reading.TheVariants as read
 use Rattle.book.specs.declared.Row.{Row}
 use Rattle.book.specs.declared.Starts.{Starts}
+use Rattle.roster.specs.declared.Refusal.{Refusal}
 
 -- ---- what stands at a place decides
 
@@ -40,7 +40,7 @@ policy_from_lem : (book : List ℕ) (listed : ℕ) (p : Place) → ((x : Policy)
     → policy_from book p ≡ policy_by (standing (policies_of (form_of book)) book p)
 policy_from_lem book listed (At at) fits =
     let p = entry_at (policies_of (form_of book)) book at in
-    ap (λ (r : Ruling). listed_by (made_by r p)) (fits p refl).sound
+    ap (λ (r : Result Unit Refusal). listed_by (made_by r p)) (fits p refl).sound
 policy_from_lem book listed Nothing fits = refl
 
 -- what is so of each is so of the one at a place

@@ -1,5 +1,5 @@
 -- A refused book: its number is one of 2 to 5 or of 11 to 19, or 25, and its place is at most the book's length. Assumes nothing.
-use Rattle.std.specs.Prelude.{◌≡◌, Bool, eqb, get_or}
+use Rattle.std.specs.Prelude.{◌≡◌, Bool, eqb, get_or, Ok, Result}
 use Rattle.std.proofs.Math.Path.{refl}
 use Rattle.std.proofs.Common.{subst, inl, inr, ltb-false, eqb-true}
 use Rattle.std.proofs.Math.Bool.{true, false}
@@ -13,8 +13,6 @@ use Rattle.roster.specs.Limits.{away_limit, crew_limit, size_limit, edition_limi
 use Rattle.roster.specs.Refusals.{refused_if, outside, policy_ruling, own_ruling, made_by, made}
 use Rattle.roster.specs.declared.Policy.{Policy}
 use Rattle.roster.specs.declared.Refusal.TheVariants.{Task, Away, Crews, Size, Edition}
-use Rattle.roster.specs.declared.Ruling.{Ruling}
-use Rattle.roster.specs.declared.Ruling.TheVariants.{Admitted}
 use Rattle.book.specs.Layout.{Each, form_has_persons}
 use Rattle.book.specs.Faults.{fault_number, EntryNumber, BookNumber}
 use Rattle.book.specs.Reading.{Kind, total, field_place, cut_place, amiss_if, fault_if, placed, not_above, past_listed, staff_of, row_amiss, by_made, codes, rows_of, policies_of, width, entry_at, prior, count_look, entry_look, in_turn, count_at, section_looks, past, form_by, form_of, front, listed_in, end_look, looks_from_policies, looks_from_rows, looks, read_of}
@@ -35,6 +33,7 @@ use Rattle.book.specs.declared.Row.{Row}
 use Rattle.book.specs.declared.Before.{Before}
 use Rattle.book.specs.declared.Before.TheVariants.{Nothing, Entry}
 use Rattle.book.specs.declared.Reading.TheVariants as read
+use Rattle.roster.specs.declared.Refusal.{Refusal}
 
 -- ---- the number
 
@@ -66,14 +65,14 @@ told_of_book ws at amiss.Nothing t = tt
 told_of_book ws at (amiss.Field f k) t = of_book (fault_number f) t
 
 -- of a policy by itself 2, 3, 4, 5 or 25 is told: there are no rows to be too many, and no absence is named
-told_ruling : (P s d t ed : ℕ) (r : Ruling) (p : Policy) → policy_ruling 0 P s d t ed ≡ r → Told EntryNumber (by_made (made_by r p))
+told_ruling : (P s d t ed : ℕ) (r : Result Unit Refusal) (p : Policy) → policy_ruling 0 P s d t ed ≡ r → Told EntryNumber (by_made (made_by r p))
 unfolding policy_ruling
 told_ruling P s d t ed r p e =
-    subst (λ (x : Ruling). Told EntryNumber (by_made (made_by x p))) e
+    subst (λ (x : Result Unit Refusal). Told EntryNumber (by_made (made_by x p))) e
     (go (eqb P 0) (ltb away_limit s) (outside crew_limit d) (outside size_limit t) (outside edition_limit ed))
   where
     go : (a b c f g : Bool)
-        → Told EntryNumber (by_made (made_by (refused_if a Task (refused_if b Away (refused_if c Crews (refused_if f Size (refused_if g Edition Admitted))))) p))
+        → Told EntryNumber (by_made (made_by (refused_if a Task (refused_if b Away (refused_if c Crews (refused_if f Size (refused_if g Edition (Ok tt)))))) p))
     go true b c f g = inl (omega arith, omega arith)
     go false true c f g = inl (omega arith, omega arith)
     go false false true f g = inl (omega arith, omega arith)

@@ -1,5 +1,5 @@
 -- The three kinds of entry: their values have no fault exactly if they are admitted. Assumes nothing.
-use Rattle.std.specs.Prelude.{◌≡◌, refl, Bool, true, false, ℕ, ◌^◌, ◌≤◌, ◌<◌, leb}
+use Rattle.std.specs.Prelude.{◌≡◌, refl, Bool, true, false, ℕ, ◌^◌, ◌≤◌, ◌<◌, leb, Err, Ok, Result}
 use Rattle.std.proofs.Common.{ap, lt_of_lt_of_le, arith, pow_mono, leb-false}
 use Rattle.std.proofs.Math.Option.{Option, some, none}
 use mathlib.Core.List.{List, [], ◌∷◌}
@@ -7,8 +7,6 @@ use Rattle.std.proofs.lemmas.Bool.{lt-leb}
 use Rattle.roster.specs.Refusals.{own_ruling, made_by}
 use Rattle.roster.proofs.Laws.Rulings.{policy_within}
 use Rattle.roster.specs.declared.Policy.{Policy}
-use Rattle.roster.specs.declared.Ruling.{Ruling}
-use Rattle.roster.specs.declared.Ruling.TheVariants as ruling
 use Rattle.book.specs.Layout.{code_fields, row_fields, edition_widths, edition_fields, policy_fields, permission_limit, Own, OwnEdition, Each, Below, Ascends, PolicyFits}
 use Rattle.book.specs.Reading.{Kind, fields_at, past_listed, row_amiss, codes, rows, policies, by_made}
 use Rattle.book.specs.Laws.Codec.{Fit}
@@ -18,6 +16,7 @@ use Rattle.book.specs.declared.Row.{Row}
 use Rattle.book.specs.declared.Fault.TheVariants as fault
 use Rattle.book.specs.declared.Amiss.TheVariants.{Nothing}
 use Rattle.book.specs.Laws.Values.{RowFits}
+use Rattle.roster.specs.declared.Refusal.{Refusal}
 
 -- ---- a value and its fields
 
@@ -138,9 +137,9 @@ sound_rows persons listed l a m =
 -- ---- policies
 
 -- what is made is a policy exactly if nothing is refused
-admitted : (r : Ruling) (p : Policy) → by_made (made_by r p) ≡ Nothing → r ≡ ruling.Admitted
-admitted ruling.Admitted p e = refl
-admitted (ruling.Refused refusal) p e = cc
+admitted : (r : Result Unit Refusal) (p : Policy) → by_made (made_by r p) ≡ Nothing → r ≡ Ok tt
+admitted (Ok tt) p e = refl
+admitted (Err refusal) p e = cc
 
 policy_there : (editions : Bool) (listed : ℕ) (before : Option Policy) (p : Policy) → (policies editions).faults listed before p ≡ Nothing → PolicyFits listed p
 policy_there editions listed before p e =
@@ -150,7 +149,7 @@ policy_there editions listed before p e =
 policy_back : (editions : Bool) (listed : ℕ) (before : Option Policy) (p : Policy) → PolicyFits listed p → (policies editions).faults listed before p ≡ Nothing
 policy_back editions listed before p f =
     none_amiss (past_listed listed p.task) fault.Task 0 _ (lt-leb (2 ^ listed) p.task f.task)
-    (ap (λ (r : Ruling). by_made (made_by r p)) f.sound)
+    (ap (λ (r : Result Unit Refusal). by_made (made_by r p)) f.sound)
 
 module _ (editions : Bool) (listed : ℕ) where
   pub policies_sound : (before : Option Policy) (l : List Policy) → Faultless (policies editions) (policy_fields editions) (policy_codec editions) listed before l

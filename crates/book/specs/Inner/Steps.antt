@@ -1,9 +1,8 @@
 -- The reader's own steps, by the section's name: what its functions answer. Reading is what they come to. Nothing here is proved: these are
 -- definitions.
-use Rattle.std.specs.Prelude.{Bool, List, ℕ, ◌+◌, ◌*◌, ltb, length}
+use Rattle.std.specs.Prelude.{Bool, List, ℕ, ◌+◌, ◌*◌, ltb, length, Result}
 use Rattle.roster.specs.Limits.{row_limit}
 use Rattle.roster.specs.Refusals.{made}
-use Rattle.roster.specs.declared.Made.{Made}
 use Rattle.book.specs.Layout.{policy_limit}
 use Rattle.book.specs.Reading.{number, not_above, prior, codes, rows_of, policies_of, width, entry_at, amiss_if, fault_if, count_at, entry_look, in_turn, section_looks, past, front, looks_from_policies, looks_from_rows, first_fault}
 use Rattle.book.specs.declared.Form.{Form}
@@ -23,6 +22,8 @@ use Rattle.book.specs.declared.Step.{Step}
 use Rattle.book.specs.declared.Step.TheVariants as step
 use Rattle.book.specs.declared.Reading.{Reading}
 use Rattle.book.specs.declared.Reading.TheVariants as read
+use Rattle.roster.specs.declared.Refusal.{Refusal}
+use Rattle.roster.specs.declared.Policy.{Policy}
 
 abbrev pub width_in : Form → Section → ℕ
 width_in form Permissions = width codes
@@ -61,7 +62,7 @@ count_in section book at =
     Sound)
 
 -- what the policy makes that stands here
-abbrev pub made_at : Form → List ℕ → ℕ → Made
+abbrev pub made_at : Form → List ℕ → ℕ → Result Policy Refusal
 made_at form book at = made (entry_at (policies_of form) book at)
 
 abbrev pub look_in : Form → Section → List ℕ → ℕ → Before → ℕ → Look

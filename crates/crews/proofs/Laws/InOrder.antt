@@ -1,11 +1,10 @@
 -- The crews of the first list ascend by their lowest holders of P's lowest permission, whatever the absence; so do the crews that are replied
 -- to a named absence. Assumes nothing.
-use Rattle.std.specs.Prelude.{◌≡◌, true, ◌≢◌, List, ℕ, ◌^◌, ◌<◌, get_or}
+use Rattle.std.specs.Prelude.{◌≡◌, true, ◌≢◌, List, ℕ, ◌^◌, ◌<◌, get_or, Ok}
 use Rattle.std.proofs.Common.{sym, ap, ◌∙◌, subst, arith}
 use Rattle.std.specs.Int.Count.{count_trailing_zeros}
 use Rattle.sets.specs.Sets.{bit, Has}
 use Rattle.roster.specs.declared.Table.{Table}
-use Rattle.roster.specs.declared.Ruling.TheVariants as ruling
 use Rattle.roster.specs.declared.Verdict.TheVariants.{Crews}
 use Rattle.roster.specs.declared.Reply.{Reply}
 use Rattle.roster.specs.Meaning.{held}
@@ -84,7 +83,7 @@ module _ {table : Table} {P d : ℕ} (fair : Fair table P d) (t ed A : ℕ) wher
 
 -- the list that is replied to a named absence
 pub named_in_order : (table : Table) (P d t ed A allowance : ℕ) → P < 2 ^ 32 → (r : Reply) → NamedReply table P d t ed A allowance r
-    → named_ruling table.rows P d t ed A ≡ ruling.Admitted → r.verdict ≡ Crews → InOrder table P d r.crews
+    → named_ruling table.rows P d t ed A ≡ Ok tt → r.verdict ≡ Crews → InOrder table P d r.crews
 named_in_order table P d t ed A allowance wide r a ok v =
     let x = (named-crews table P d t ed A allowance wide r a ok).0 v in
     let f = admitted_fair table P d t ed A wide ok in

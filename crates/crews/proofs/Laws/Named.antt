@@ -1,13 +1,11 @@
 -- The question for a named absence: any two replies that are allowed for one input are equal, what each verdict says, what the allowance
 -- may change, and that holdings outside P or past the count play no part. Exactness is what decides between `Crews` and `None`.
 -- Assumes nothing.
-use Rattle.std.specs.Prelude.{◌≡◌, refl, true, false, ◌⊎◌, ◌≢◌, ◌↔◌, List, ℕ, ◌^◌, ◌≤◌, ◌<◌, min, take}
+use Rattle.std.specs.Prelude.{◌≡◌, refl, true, false, ◌⊎◌, ◌≢◌, ◌↔◌, List, ℕ, ◌^◌, ◌≤◌, ◌<◌, min, take, Err, Ok, Result}
 use Rattle.std.proofs.Common.{sym, ap, ◌∙◌, subst, inl, inr, ⊎_elim, arith}
 use Rattle.std.proofs.Math.Decide.{dec_le}
 use Rattle.roster.specs.declared.Table.{Table}
 use Rattle.roster.specs.declared.Refusal.{Refusal}
-use Rattle.roster.specs.declared.Ruling.{Ruling}
-use Rattle.roster.specs.declared.Ruling.TheVariants as ruling
 use Rattle.roster.specs.declared.Verdict.{Verdict}
 use Rattle.roster.specs.declared.Verdict.TheVariants.{Undecided, Crews, None, Refused}
 use Rattle.roster.specs.declared.Reply.{Reply}
@@ -23,7 +21,7 @@ use Rattle.crews.proofs.Laws.Sound.{none-at}
 use Rattle.crews.proofs.Laws.Same.{same_filling}
 
 -- an admitted question has what exactness needs
-pub admitted_fair : (table : Table) (P d t ed A : ℕ) → P < 2 ^ 32 → named_ruling table.rows P d t ed A ≡ ruling.Admitted
+pub admitted_fair : (table : Table) (P d t ed A : ℕ) → P < 2 ^ 32 → named_ruling table.rows P d t ed A ≡ Ok tt
     → Fair table P d × (A < 2 ^ table.rows)
 admitted_fair table P d t ed A wide e =
     let x = named_within table.rows P d t ed A e in
@@ -33,16 +31,16 @@ admitted_fair table P d t ed A wide e =
 -- ---- every question is of one of four kinds, and each kind has one reply
 
 pub data Kind (table : Table) (P d t ed A allowance : ℕ) : Type 0 where
-  refused : (refusal : Refusal) → named_ruling table.rows P d t ed A ≡ ruling.Refused refusal → Kind table P d t ed A allowance
-  undecided : named_ruling table.rows P d t ed A ≡ ruling.Admitted → allowance < need_named table P d t ed A → Kind table P d t ed A allowance
-  crews : named_ruling table.rows P d t ed A ≡ ruling.Admitted → need_named table P d t ed A ≤ allowance
+  refused : (refusal : Refusal) → named_ruling table.rows P d t ed A ≡ Err refusal → Kind table P d t ed A allowance
+  undecided : named_ruling table.rows P d t ed A ≡ Ok tt → allowance < need_named table P d t ed A → Kind table P d t ed A allowance
+  crews : named_ruling table.rows P d t ed A ≡ Ok tt → need_named table P d t ed A ≤ allowance
       → (list : List ℕ) → CrewList table P d t ed A list → Kind table P d t ed A allowance
-  none : named_ruling table.rows P d t ed A ≡ ruling.Admitted → need_named table P d t ed A ≤ allowance → Blocks table P d t ed A
+  none : named_ruling table.rows P d t ed A ≡ Ok tt → need_named table P d t ed A ≤ allowance → Blocks table P d t ed A
       → Kind table P d t ed A allowance
 
-pub ruled : (x : Ruling) → (x ≡ ruling.Admitted) ⊎ ((refusal : Refusal) × (x ≡ ruling.Refused refusal))
-ruled ruling.Admitted = inl refl
-ruled (ruling.Refused refusal) = inr (refusal, refl)
+pub ruled : (x : Result Unit Refusal) → (x ≡ Ok tt) ⊎ ((refusal : Refusal) × (x ≡ Err refusal))
+ruled (Ok tt) = inl refl
+ruled (Err refusal) = inr (refusal, refl)
 
 module _ (table : Table) (P d t ed A allowance : ℕ) where
   -- an absence has a list or blocks: `decide`
@@ -51,7 +49,7 @@ module _ (table : Table) (P d t ed A allowance : ℕ) where
       ⊎_elim (λ e. admitted e (dec_le (need_named table P d t ed A) allowance)) (λ x. refused x.0 x.1)
       (ruled (named_ruling table.rows P d t ed A))
     where
-      admitted : named_ruling table.rows P d t ed A ≡ ruling.Admitted → Dec (need_named table P d t ed A ≤ allowance) → Kind table P d t ed A allowance
+      admitted : named_ruling table.rows P d t ed A ≡ Ok tt → Dec (need_named table P d t ed A ≤ allowance) → Kind table P d t ed A allowance
       admitted e (no n) = undecided e (omega arith)
       admitted e (yes l) =
           let x = admitted_fair table P d t ed A wide e in
@@ -78,12 +76,12 @@ module _ (table : Table) (P d t ed A allowance : ℕ) where
 
 module _ (table : Table) (P d t ed A allowance : ℕ) (wide : P < 2 ^ 32) (r : Reply) where
   -- The reply goes by `found`: a list exists exactly if filling finds one.
-  pub allowed_by : ((refusal : Refusal) → named_ruling table.rows P d t ed A ≡ ruling.Refused refusal → r ≡ reply_with no_crews 0 0 allowance (Refused refusal))
-      → (named_ruling table.rows P d t ed A ≡ ruling.Admitted → allowance < need_named table P d t ed A
+  pub allowed_by : ((refusal : Refusal) → named_ruling table.rows P d t ed A ≡ Err refusal → r ≡ reply_with no_crews 0 0 allowance (Refused refusal))
+      → (named_ruling table.rows P d t ed A ≡ Ok tt → allowance < need_named table P d t ed A
       → r ≡ reply_with no_crews 0 (need_named table P d t ed A) allowance Undecided)
-      → (named_ruling table.rows P d t ed A ≡ ruling.Admitted → need_named table P d t ed A ≤ allowance → (filling table P d t ed A).found ≡ true
+      → (named_ruling table.rows P d t ed A ≡ Ok tt → need_named table P d t ed A ≤ allowance → (filling table P d t ed A).found ≡ true
       → r ≡ reply_with (first_list table P d t ed A) 0 (need_named table P d t ed A) allowance Crews)
-      → (named_ruling table.rows P d t ed A ≡ ruling.Admitted → need_named table P d t ed A ≤ allowance → (filling table P d t ed A).found ≡ false
+      → (named_ruling table.rows P d t ed A ≡ Ok tt → need_named table P d t ed A ≤ allowance → (filling table P d t ed A).found ≡ false
       → r ≡ reply_with no_crews 0 (need_named table P d t ed A) allowance None)
       → NamedReply table P d t ed A allowance r
   allowed_by refuses over complete exhausted =
@@ -116,16 +114,16 @@ module _ (table : Table) (P d t ed A allowance : ℕ) (wide : P < 2 ^ 32) (r : R
   told : (v : Verdict) → r.verdict ≡ v → (k : Kind table P d t ed A allowance) × (verdict_for k ≡ v)
   told v e = let k = kind_of table P d t ed A allowance wide in (k, sym (verdict k) ∙ e)
 
-  pub named_refused : (refusal : Refusal) → (r.verdict ≡ Refused refusal) ↔ (named_ruling table.rows P d t ed A ≡ ruling.Refused refusal)
+  pub named_refused : (refusal : Refusal) → (r.verdict ≡ Refused refusal) ↔ (named_ruling table.rows P d t ed A ≡ Err refusal)
   named_refused refusal = (λ v. let x = told (Refused refusal) v in go x.0 x.1, λ e. verdict (refused refusal e))
     where
-      go : (k : Kind table P d t ed A allowance) → verdict_for k ≡ Refused refusal → named_ruling table.rows P d t ed A ≡ ruling.Refused refusal
+      go : (k : Kind table P d t ed A allowance) → verdict_for k ≡ Refused refusal → named_ruling table.rows P d t ed A ≡ Err refusal
       go (refused other e) v = cc
       go (undecided e l) v = let z : ◌≡◌ {A = ℕ} 0 1 = cc in absurd (omega arith)
       go (crews e l list c) v = let z : ◌≡◌ {A = ℕ} 0 1 = cc in absurd (omega arith)
       go (none e l b) v = let z : ◌≡◌ {A = ℕ} 0 1 = cc in absurd (omega arith)
 
-  module _ (ok : named_ruling table.rows P d t ed A ≡ ruling.Admitted) where
+  module _ (ok : named_ruling table.rows P d t ed A ≡ Ok tt) where
     -- "undecided, exactly if allowance < need"
     pub named_undecided : (r.verdict ≡ Undecided) ↔ (allowance < need)
     named_undecided = (λ v. let x = told Undecided v in go x.0 x.1, λ l. verdict (undecided ok l))

@@ -1,12 +1,11 @@
 -- The question for a named absence, held against the rule before, over all replies that the two contracts allow: a reply now and one by that
 -- rule are the same but for the units wherever both decide, and a question is decided now wherever it was, with no more units.
 -- Assumes nothing.
-use Rattle.std.specs.Prelude.{◌≡◌, refl, ◌⊎◌, ◌≢◌, List, ℕ, ◌^◌, ◌≤◌, ◌<◌}
+use Rattle.std.specs.Prelude.{◌≡◌, refl, ◌⊎◌, ◌≢◌, List, ℕ, ◌^◌, ◌≤◌, ◌<◌, Err, Ok}
 use Rattle.std.proofs.Common.{sym, ap, ◌∙◌, inl, inr, ⊎_elim, arith}
 use Rattle.std.proofs.Math.Decide.{dec_le}
 use Rattle.roster.specs.declared.Table.{Table}
 use Rattle.roster.specs.declared.Refusal.{Refusal}
-use Rattle.roster.specs.declared.Ruling.TheVariants as ruling
 use Rattle.roster.specs.declared.Verdict.TheVariants.{Undecided}
 use Rattle.roster.specs.declared.Reply.{Reply}
 use Rattle.roster.specs.Meaning.{CrewList, Blocks}
@@ -24,7 +23,7 @@ Same r q = (r.verdict ≡ q.verdict) × (r.crews ≡ q.crews) × (r.blocker ≡ 
 
 module _ (table : Table) (P d t ed A : ℕ) where
   abbrev Admitted : Type 0
-  Admitted = named_ruling table.rows P d t ed A ≡ ruling.Admitted
+  Admitted = named_ruling table.rows P d t ed A ≡ Ok tt
 
   -- what is decided had allowance enough
   enough : (o : Outcome) (allowance : ℕ) (r : Reply) → NamedReplyBy o table P d t ed A allowance r → Admitted → r.verdict ≢ Undecided → o.need ≤ allowance
@@ -60,7 +59,7 @@ module _ (table : Table) (P d t ed A : ℕ) where
         same : {x y : Reply} → r ≡ x → q ≡ y → Same x y → Same r q
         same e f s = rw e (rw f s)
 
-        refused : (refusal : Refusal) → named_ruling table.rows P d t ed A ≡ ruling.Refused refusal → Same r q
+        refused : (refusal : Refusal) → named_ruling table.rows P d t ed A ≡ Err refusal → Same r q
         refused refusal e = same (k.refused refusal e) (m.refused refusal e) (refl, refl, refl)
 
         admitted : Admitted → ((list : List ℕ) × CrewList table P d t ed A list) ⊎ Blocks table P d t ed A → Same r q
@@ -75,7 +74,7 @@ module _ (table : Table) (P d t ed A : ℕ) where
         → q.verdict ≢ Undecided → (r.verdict ≢ Undecided) × (r.units ≤ q.units)
     named-before_decides a r q k m v = ⊎_elim admitted (λ x. refused x.0 x.1) (ruled (named_ruling table.rows P d t ed A))
       where
-        refused : (refusal : Refusal) → named_ruling table.rows P d t ed A ≡ ruling.Refused refusal → (r.verdict ≢ Undecided) × (r.units ≤ q.units)
+        refused : (refusal : Refusal) → named_ruling table.rows P d t ed A ≡ Err refusal → (r.verdict ≢ Undecided) × (r.units ≤ q.units)
         refused refusal e =
             let same = k.refused refusal e ∙ sym (m.refused refusal e) in
             (λ z. v (sym (ap (λ (x : Reply). x.verdict) same) ∙ z), omega (arith, ap (λ (x : Reply). x.units) same))

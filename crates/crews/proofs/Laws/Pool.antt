@@ -1,5 +1,5 @@
 -- The rows that are looked at for the permission that is wanted, from what `pool_of` tests. Assumes nothing.
-use Rattle.std.specs.Prelude.{◌≡◌, ◌≢◌, eqb}
+use Rattle.std.specs.Prelude.{◌≡◌, ◌≢◌}
 use Rattle.std.proofs.Math.Path.{ap}
 use Rattle.std.proofs.Common.{arith}
 use Prim.Native.Nat.{ℕ, ◌≤◌}

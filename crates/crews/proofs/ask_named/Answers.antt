@@ -1,5 +1,6 @@
 -- A refused question is answered by its refusal. For an admitted one the arrays say what the definition's functions say (`lent_filling`), so
 -- the reply is that of `filling` under the allowance, and by exactness that is the one allowed (`allowed_by`). Assumes nothing.
+use Rattle.std.specs.Prelude.{Err, Ok}
 use mathlib.Core.Path.{◌≡◌, sym, ap, ap₂, ◌∙◌}
 use mathlib.Core.Bool.{Bool}
 use mathlib.Core.Logic.{◌≢◌}
@@ -11,7 +12,6 @@ use borrow.Author.Rules.{rules}
 use Rattle.sets.specs.Sets.{minus, below_within}
 use Rattle.roster.specs.declared.Table.{Table}
 use Rattle.roster.specs.declared.Refusal.{Refusal}
-use Rattle.roster.specs.declared.Ruling.TheVariants as ruling
 use Rattle.roster.specs.declared.Verdict.TheVariants.{Refused}
 use Rattle.roster.specs.declared.Reply.{Reply}
 use Rattle.roster.specs.Meaning.{least_members}
@@ -30,7 +30,7 @@ use Rattle.crews.proofs.ask_named.Goals as goal
 use Rattle.crews.proofs.ask_named.Goals.{After-named_ruling, Start}
 
 module _ (table : Table) (P d t ed A allowance : ℕ) (wide : P < 2 ^ 32) (r : Reply) where
-  refused : (refusal : Refusal) → named_ruling table.rows P d t ed A ≡ ruling.Refused refusal
+  refused : (refusal : Refusal) → named_ruling table.rows P d t ed A ≡ Err refusal
       → r ≡ reply_with no_crews 0 0 allowance (Refused refusal) → NamedReply table P d t ed A allowance r
   refused refusal e h =
       allowed_by table P d t ed A allowance wide r
@@ -45,7 +45,7 @@ module _ (table : Table) (P d t ed A allowance : ℕ) (wide : P < 2 ^ 32) (r : R
   abbrev told : Bool → ℕ → Reply
   told found units = reply_with outcome.crews 0 units units (verdict_of (ending_of found))
 
-  admitted : named_ruling table.rows P d t ed A ≡ ruling.Admitted → r ≡ replied_of (filled_of allowance 0 outcome)
+  admitted : named_ruling table.rows P d t ed A ≡ Ok tt → r ≡ replied_of (filled_of allowance 0 outcome)
       → NamedReply table P d t ed A allowance r
   admitted e h =
       allowed_by table P d t ed A allowance wide r
@@ -77,10 +77,10 @@ ruled c = sym c.named_ruling.ensures
 wide : (c : Start) → c.args.policy.task < 2 ^ 32
 wide c = search rules
 
-pub returns-in-Admitted : goal.returns-in-Admitted
-returns-in-Admitted c = let s = c.args in
-    let fits = wide (goal.at.returns-in-Admitted c).Start in
-    let ok = ruled (goal.at.returns-in-Admitted c).After-named_ruling ∙ c.in-Admitted.is in
+pub returns-in-Ok : goal.returns-in-Ok
+returns-in-Ok c = let s = c.args in
+    let fits = wide (goal.at.returns-in-Ok c).Start in
+    let ok = ruled (goal.at.returns-in-Ok c).After-named_ruling ∙ c.in-Ok.is in
     let k = (named_within s.table.rows s.policy.task s.policy.crews s.policy.size s.policy.edition s.absent ok).0 in
     let holds = c.holdings_within-holds in
     let holders = c.holders_of-holders in

@@ -1,5 +1,5 @@
 -- No sheet is longer than `longest`: at most 32 lines, each of at most 726 bytes, since a line names each person at most once. Assumes nothing.
-use Rattle.std.specs.Prelude.{◌≡◌, refl, Bool, ltb, get_or, take}
+use Rattle.std.specs.Prelude.{◌≡◌, refl, Bool, ltb, get_or, take, Err, Ok, Result}
 use Rattle.std.proofs.Common.{sym, ap, subst, ◌∙◌, ⊎_elim, lt_of_lt_of_le, length-take, pow_mono, get_or-take}
 use mathlib.Core.List.{List, [], ◌∷◌, map}
 use Rattle.std.proofs.Math.Bool.{true, false}
@@ -30,8 +30,6 @@ use Rattle.roster.specs.Refusals.{number_of, policy_ruling, made_by}
 use Rattle.roster.specs.declared.Refusal.{Refusal}
 use Rattle.roster.specs.declared.Refusal.TheVariants as refusal
 use Rattle.roster.specs.declared.Policy.{Policy}
-use Rattle.roster.specs.declared.Ruling.{Ruling}
-use Rattle.roster.specs.declared.Ruling.TheVariants as ruling
 use Rattle.accounts.specs.declared.Accounts.{Accounts}
 use Rattle.accounts.specs.Persons.{where?, number_of as Persons·numberOf, persons, number, merged}
 use Rattle.accounts.specs.Refusals.{accounts_ruling}
@@ -189,9 +187,9 @@ module _ (numbers : List ℕ) (fits : (row : ℕ) → get_or numbers row 0 < 2 ^
   unfolding sets_text
   answer-line a P s d t ed wide = go (accounts_ruling a)
     where
-      go : (first : Ruling) → length (line_of numbers index (behind first (policy_reply_of way (merged a) P s d t ed allowance))) ≤ 726
-      go ruling.Admitted = reply_line (merged a) P s d t ed wide
-      go (ruling.Refused refusal) = line-length numbers index (reply_with no_crews 0 0 0 (Refused refusal)) early (omega arith) (omega arith)
+      go : (first : Result Unit Refusal) → length (line_of numbers index (behind first (policy_reply_of way (merged a) P s d t ed allowance))) ≤ 726
+      go (Ok tt) = reply_line (merged a) P s d t ed wide
+      go (Err refusal) = line-length numbers index (reply_with no_crews 0 0 0 (Refused refusal)) early (omega arith) (omega arith)
 
 -- ---- the lines of a book
 
@@ -234,9 +232,9 @@ module _ (book : List ℕ) (bytes : Bytes book) where
   unfolding policy_at line_by reply_to fields_at
   line-fits index early = at (policy_place book (starts_in book).policies index)
     where
-      made : (p : Policy) → p.task < 2 ^ 32 → (r : Ruling) → length (line_by book index (listed_by (made_by r p))) ≤ 726
-      made p wide ruling.Admitted = answer-line (numbers_in book) numbers_fit index early (accounts_in book) p.task p.away p.crews p.size p.edition wide
-      made p wide (ruling.Refused refusal) = omega arith
+      made : (p : Policy) → p.task < 2 ^ 32 → (r : Result Unit Refusal) → length (line_by book index (listed_by (made_by r p))) ≤ 726
+      made p wide (Ok tt) = answer-line (numbers_in book) numbers_fit index early (accounts_in book) p.task p.away p.crews p.size p.edition wide
+      made p wide (Err refusal) = omega arith
 
       at : (place : Place) → length (line_by book index (policy_from book place)) ≤ 726
       at (place.At a) =

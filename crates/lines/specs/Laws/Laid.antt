@@ -1,12 +1,11 @@
 -- The sheet of a good book is a function of its values: of the persons that its accounts come to, and of its policies. Assumes nothing.
-use Rattle.std.specs.Prelude.{◌≡◌, ℕ, suc, ◌+◌, length}
+use Rattle.std.specs.Prelude.{◌≡◌, ℕ, suc, ◌+◌, length, Result}
 use Rattle.std.proofs.Math.Path.{refl, ap, ap₂}
 use Rattle.std.proofs.Common.{◌∙◌, arith}
 use mathlib.Core.List.{List, [], ◌∷◌, ◌++◌}
 use Rattle.std.proofs.Math.ListN.{get_elem?}
 use Rattle.roster.specs.declared.Policy.{Policy}
 use Rattle.roster.specs.declared.Reply.{Reply}
-use Rattle.roster.specs.declared.Ruling.{Ruling}
 use Rattle.absences.specs.Replied.{policy_reply_of}
 use Rattle.accounts.specs.declared.Accounts.{Accounts}
 use Rattle.accounts.specs.declared.People.{People}
@@ -21,6 +20,7 @@ use Rattle.book.proofs.Laws.Parts.{layout_parts}
 use Rattle.book.specs.declared.Listed.TheVariants as listed
 use Rattle.lines.specs.Lines.{line_of}
 use Rattle.lines.specs.Sheet.{allowance, way, answer_to, numbers_in, reply_to, line_by, lines_from, sheet_by, sheet_of}
+use Rattle.roster.specs.declared.Refusal.{Refusal}
 
 -- the reply to a policy over these persons, and the lines of policies, with the indices from this one on
 abbrev pub reply_over : People → Policy → Reply
@@ -41,7 +41,7 @@ module _ (v : Contents) (book : List ℕ) (l : LayoutOf v book) where
   reply_laid p =
       let a = accounts_for v in
       ap (λ (x : Accounts). answer_to x p) (layout_parts v book l).accounts
-      ∙ ap (λ (first : Ruling). behind first (reply_over (people_of a) p)) (few_admitted a l.admitted.rows)
+      ∙ ap (λ (first : Result Unit Refusal). behind first (reply_over (people_of a) p)) (few_admitted a l.admitted.rows)
 
   lines_laid : (index : ℕ) (policies : List Policy) → ((j : ℕ) → policy_at book (index + j) ≡ policy_by (get_elem? policies j))
       → lines_from book index (length policies) ≡ lines_over (people_of (accounts_for v)) index policies

@@ -1,5 +1,5 @@
 -- A policy of a good book is an admitted question, and what is printed of it is the reply that the search is allowed to give. Assumes nothing.
-use Rattle.std.specs.Prelude.{◌≡◌, List, [], ◌∷◌, ◌++◌, ℕ, ◌^◌, ◌≤◌, ◌<◌, length}
+use Rattle.std.specs.Prelude.{◌≡◌, List, [], ◌∷◌, ◌++◌, ℕ, ◌^◌, ◌≤◌, ◌<◌, length, Ok}
 use Rattle.std.proofs.Common.{sym, lt_of_lt_of_le, pow_mono, le-ltb}
 use Rattle.std.proofs.Math.Option.{some}
 use Rattle.std.proofs.Math.ListN.{get_elem?}
@@ -7,7 +7,6 @@ use Rattle.roster.specs.Limits.{row_limit}
 use Rattle.roster.specs.Refusals.{policy_ruling}
 use Rattle.roster.specs.declared.Policy.{Policy}
 use Rattle.roster.specs.declared.Reply.{Reply}
-use Rattle.roster.specs.declared.Ruling.TheVariants.{Admitted}
 use Rattle.absences.specs.Tried.{skipping}
 use Rattle.accounts.specs.Persons.{persons}
 use Rattle.accounts.proofs.Laws.Merged.{persons_few}
@@ -26,7 +25,7 @@ use Rattle.printed.specs.Laws.Lines.{line_text_lem}
 use Rattle.printed.specs.Laws.Sheets.{line_at, sheet_line}
 
 -- what is not refused without a table is not refused with one of few enough rows
-admitted_with : (n P s d t ed : ℕ) → n ≤ row_limit → policy_ruling 0 P s d t ed ≡ Admitted → policy_ruling n P s d t ed ≡ Admitted
+admitted_with : (n P s d t ed : ℕ) → n ≤ row_limit → policy_ruling 0 P s d t ed ≡ Ok tt → policy_ruling n P s d t ed ≡ Ok tt
 unfolding policy_ruling
 admitted_with n P s d t ed l e = rw (le-ltb row_limit n l) e
 

@@ -1,13 +1,11 @@
 -- The demands over accounts, for all replies that the contracts allow: what a reply tells, with no word of merging but in the need and in the
 -- ranks that order blockers; and that both searches, and larger allowances, tell the same. Assumes nothing.
-use Rattle.std.specs.Prelude.{◌≡◌, refl, ◌↔◌, ◌≢◌, Bool, true, false, List, map, ℕ, ◌^◌, ◌≤◌, ◌<◌, min, leb, take}
+use Rattle.std.specs.Prelude.{◌≡◌, refl, ◌↔◌, ◌≢◌, Bool, true, false, List, map, ℕ, ◌^◌, ◌≤◌, ◌<◌, min, leb, take, Err, Ok, Result}
 use Rattle.std.proofs.Common.{sym, ap, ◌∙◌, subst, inl, inr, ⊎_elim, arith, leb-true, le-leb}
 use Rattle.std.proofs.lemmas.Bool.{lt-leb}
 use Rattle.sets.specs.Sets.{Has}
 use Rattle.roster.specs.declared.Refusal.{Refusal}
 use Rattle.roster.specs.declared.Refusal.TheVariants.{Rows, Absence}
-use Rattle.roster.specs.declared.Ruling.{Ruling}
-use Rattle.roster.specs.declared.Ruling.TheVariants as ruling
 use Rattle.roster.specs.declared.Verdict.TheVariants.{Yes, No, Undecided, Crews, None, Refused}
 use Rattle.roster.specs.declared.Reply.{Reply}
 use Rattle.roster.specs.Limits.{row_limit}
@@ -36,12 +34,12 @@ never e = absurd (omega arith)
 
 -- 1 to 5 and 25 as they are of a table, by rows
 abbrev pub Admits : Accounts → (P s d t ed : ℕ) → Type 0
-Admits a P s d t ed = policy_ruling a.rows P s d t ed ≡ ruling.Admitted
+Admits a P s d t ed = policy_ruling a.rows P s d t ed ≡ Ok tt
 
 -- what a reply tells whoever reads it
 pub record Tells (way : Way) (a : Accounts) (P s d t ed allowance : ℕ) (r : Reply) : Type 0 where
   -- "Refusals: none new"
-  pub refused : (refusal : Refusal) → (r.verdict ≡ Refused refusal) ↔ (policy_ruling a.rows P s d t ed ≡ ruling.Refused refusal)
+  pub refused : (refusal : Refusal) → (r.verdict ≡ Refused refusal) ↔ (policy_ruling a.rows P s d t ed ≡ Err refusal)
   -- "undecided, exactly if allowance < need"
   pub undecided : (r.verdict ≡ Undecided) ↔ (Admits a P s d t ed × (allowance < need_policy way (merged a) P s d t ed))
   -- else yes exactly if no accounts of at most s persons block
@@ -166,21 +164,21 @@ larger_named a P d t ed A wide x y r q l k m dr =
 -- ---- demand 2: the named absence
 
 -- 1, 2, 4, 5 and 25 as they are of a table, by rows; "6 now compares with the number of persons"
-abbrev pub persons_ruling : Accounts → (P d t ed A : ℕ) → Ruling
-persons_ruling a P d t ed A = or_else (policy_ruling a.rows P 0 d t ed) (refused_if (leb (2 ^ persons a) A) Absence ruling.Admitted)
+abbrev pub persons_ruling : Accounts → (P d t ed A : ℕ) → Result Unit Refusal
+persons_ruling a P d t ed A = or_else (policy_ruling a.rows P 0 d t ed) (refused_if (leb (2 ^ persons a) A) Absence (Ok tt))
 
 pub record NamedTells (a : Accounts) (P d t ed A allowance : ℕ) (r : Reply) : Type 0 where
-  pub refused : (refusal : Refusal) → (r.verdict ≡ Refused refusal) ↔ (persons_ruling a P d t ed A ≡ ruling.Refused refusal)
-  pub undecided : (r.verdict ≡ Undecided) ↔ ((persons_ruling a P d t ed A ≡ ruling.Admitted) × (allowance < need_named (merged a) P d t ed A))
+  pub refused : (refusal : Refusal) → (r.verdict ≡ Refused refusal) ↔ (persons_ruling a P d t ed A ≡ Err refusal)
+  pub undecided : (r.verdict ≡ Undecided) ↔ ((persons_ruling a P d t ed A ≡ Ok tt) × (allowance < need_named (merged a) P d t ed A))
   -- else crews exactly if there are crews of persons, none of them away
   pub crews : (r.verdict ≡ Crews)
-      ↔ ((persons_ruling a P d t ed A ≡ ruling.Admitted) × (need_named (merged a) P d t ed A ≤ allowance) × ((crews : List ℕ) × PersonCrews a P d t ed A crews))
+      ↔ ((persons_ruling a P d t ed A ≡ Ok tt) × (need_named (merged a) P d t ed A ≤ allowance) × ((crews : List ℕ) × PersonCrews a P d t ed A crews))
   -- and none exactly if there are not
   pub none : (r.verdict ≡ None)
-      ↔ ((persons_ruling a P d t ed A ≡ ruling.Admitted) × (need_named (merged a) P d t ed A ≤ allowance) × PersonsBlock a P d t ed A)
+      ↔ ((persons_ruling a P d t ed A ≡ Ok tt) × (need_named (merged a) P d t ed A ≤ allowance) × PersonsBlock a P d t ed A)
   -- those replied are such crews
   pub list : r.verdict ≡ Crews → PersonCrews a P d t ed A (take d r.crews)
-  pub units : persons_ruling a P d t ed A ≡ ruling.Admitted → r.units ≡ min (need_named (merged a) P d t ed A) allowance
+  pub units : persons_ruling a P d t ed A ≡ Ok tt → r.units ≡ min (need_named (merged a) P d t ed A) allowance
   pub unspent : (refusal : Refusal) → r.verdict ≡ Refused refusal → r.units ≡ 0
 
 module _ (a : Accounts) (P d t ed A : ℕ) where
@@ -188,28 +186,28 @@ module _ (a : Accounts) (P d t ed A : ℕ) where
   ruled : a.rows ≤ row_limit → named_ruling (persons a) P d t ed A ≡ persons_ruling a P d t ed A
   ruled l =
       named-after_policy (persons a) P d t ed A
-      ∙ ap (λ (x : Ruling). or_else x (refused_if (leb (2 ^ persons a) A) Absence ruling.Admitted)) (policy_few (persons a) a.rows P 0 d t ed (persons_few a) l)
+      ∙ ap (λ (x : Result Unit Refusal). or_else x (refused_if (leb (2 ^ persons a) A) Absence (Ok tt))) (policy_few (persons a) a.rows P 0 d t ed (persons_few a) l)
 
   -- with more it is refusal 1
-  ruled_many : row_limit < a.rows → persons_ruling a P d t ed A ≡ ruling.Refused Rows
-  ruled_many l = ap (λ (x : Ruling). or_else x (refused_if (leb (2 ^ persons a) A) Absence ruling.Admitted)) ((policy_rows a.rows P 0 d t ed).1 l)
+  ruled_many : row_limit < a.rows → persons_ruling a P d t ed A ≡ Err Rows
+  ruled_many l = ap (λ (x : Result Unit Refusal). or_else x (refused_if (leb (2 ^ persons a) A) Absence (Ok tt))) ((policy_rows a.rows P 0 d t ed).1 l)
 
   -- what is admitted is admitted of the merged table
-  pub persons_admitted : persons_ruling a P d t ed A ≡ ruling.Admitted → named_ruling (persons a) P d t ed A ≡ ruling.Admitted
+  pub persons_admitted : persons_ruling a P d t ed A ≡ Ok tt → named_ruling (persons a) P d t ed A ≡ Ok tt
   persons_admitted ok = go (many-or_few a)
     where
-      go : ManyOrFew a → named_ruling (persons a) P d t ed A ≡ ruling.Admitted
+      go : ManyOrFew a → named_ruling (persons a) P d t ed A ≡ Ok tt
       go (inl (l, e)) = let many = ruled_many l in never (cc)
       go (inr (l, e)) = ruled l ∙ ok
 
   -- and a set of persons is, where the policy is
-  pub admitted_persons : (s : ℕ) → policy_ruling a.rows P s d t ed ≡ ruling.Admitted → A < 2 ^ persons a → persons_ruling a P d t ed A ≡ ruling.Admitted
+  pub admitted_persons : (s : ℕ) → policy_ruling a.rows P s d t ed ≡ Ok tt → A < 2 ^ persons a → persons_ruling a P d t ed A ≡ Ok tt
   admitted_persons s ok l =
-      ap (λ (x : Ruling). or_else x (refused_if (leb (2 ^ persons a) A) Absence ruling.Admitted)) (policy_nobody a.rows P s d t ed ok)
-      ∙ ap (λ (b : Bool). refused_if b Absence ruling.Admitted) (lt-leb (2 ^ persons a) A l)
+      ap (λ (x : Result Unit Refusal). or_else x (refused_if (leb (2 ^ persons a) A) Absence (Ok tt))) (policy_nobody a.rows P s d t ed ok)
+      ∙ ap (λ (b : Bool). refused_if b Absence (Ok tt)) (lt-leb (2 ^ persons a) A l)
 
 module _ (a : Accounts) (P d t ed A allowance : ℕ) (wide : P < 2 ^ 32) (r : Reply) (k : NamedAsked a P d t ed A allowance r) where
-  refused_told : (refusal : Refusal) → persons_ruling a P d t ed A ≡ ruling.Refused refusal → r ≡ reply_with no_crews 0 0 0 (Refused refusal)
+  refused_told : (refusal : Refusal) → persons_ruling a P d t ed A ≡ Err refusal → r ≡ reply_with no_crews 0 0 0 (Refused refusal)
       → NamedTells a P d t ed A allowance r
   refused_told refusal ruled e =
       let v : r.verdict ≡ Refused refusal = ap Reply.verdict e in
@@ -223,7 +221,7 @@ module _ (a : Accounts) (P d t ed A allowance : ℕ) (wide : P < 2 ^ 32) (r : Re
         unspent = λ other q. ap Reply.units e;
       }
 
-  admitted_told : a.rows ≤ row_limit → named_ruling (persons a) P d t ed A ≡ ruling.Admitted → NamedReply (merged a) P d t ed A allowance r
+  admitted_told : a.rows ≤ row_limit → named_ruling (persons a) P d t ed A ≡ Ok tt → NamedReply (merged a) P d t ed A allowance r
       → NamedTells a P d t ed A allowance r
   admitted_told l ok m =
       let same = ruled a P d t ed A l in
@@ -249,10 +247,10 @@ module _ (a : Accounts) (P d t ed A allowance : ℕ) (wide : P < 2 ^ 32) (r : Re
   pub named-told : NamedTells a P d t ed A allowance r
   named-told = go (many-or_few a)
     where
-      few : a.rows ≤ row_limit → NamedReply (merged a) P d t ed A allowance r → (x : Ruling) → named_ruling (persons a) P d t ed A ≡ x
+      few : a.rows ≤ row_limit → NamedReply (merged a) P d t ed A allowance r → (x : Result Unit Refusal) → named_ruling (persons a) P d t ed A ≡ x
           → NamedTells a P d t ed A allowance r
-      few l m ruling.Admitted e = admitted_told l e m
-      few l m (ruling.Refused refusal) e = refused_told refusal (sym (ruled a P d t ed A l) ∙ e) (m.refused refusal e)
+      few l m (Ok tt) e = admitted_told l e m
+      few l m (Err refusal) e = refused_told refusal (sym (ruled a P d t ed A l) ∙ e) (m.refused refusal e)
 
       go : ManyOrFew a → NamedTells a P d t ed A allowance r
       go (inl (l, e)) = refused_told Rows (ruled_many a P d t ed A l) (k.refused Rows e)
@@ -268,16 +266,16 @@ module _ (a : Accounts) (P d t ed A allowance : ℕ) (wide : P < 2 ^ 32) (r : Re
           absurd (omega (arith, (named-rows (persons a) P d t ed A).0 m, persons_few a))
 
   -- "6 now compares with the number of persons": where nothing else is amiss, exactly if the absence has a bit at or past it
-  pub named_refused_absence : policy_ruling a.rows P 0 d t ed ≡ ruling.Admitted → A < 2 ^ 64
+  pub named_refused_absence : policy_ruling a.rows P 0 d t ed ≡ Ok tt → A < 2 ^ 64
       → (r.verdict ≡ Refused Absence) ↔ ((i : ℕ) × (persons a ≤ i) × Has A i)
   named_refused_absence ok narrow =
       let told = named-told.refused Absence in
       let past = past-rows_iff (persons a) A narrow in
-      let here = ap (λ (x : Ruling). or_else x (refused_if (leb (2 ^ persons a) A) Absence ruling.Admitted)) ok in (
+      let here = ap (λ (x : Result Unit Refusal). or_else x (refused_if (leb (2 ^ persons a) A) Absence (Ok tt))) ok in (
         λ v. past.0 (go (leb (2 ^ persons a) A) refl (sym here ∙ told.0 v)),
-        λ q. told.1 (here ∙ ap (λ (b : Bool). refused_if b Absence ruling.Admitted) (le-leb (2 ^ persons a) A (past.1 q))),
+        λ q. told.1 (here ∙ ap (λ (b : Bool). refused_if b Absence (Ok tt)) (le-leb (2 ^ persons a) A (past.1 q))),
       )
     where
-      go : (b : Bool) → leb (2 ^ persons a) A ≡ b → refused_if b Absence ruling.Admitted ≡ ruling.Refused Absence → 2 ^ persons a ≤ A
+      go : (b : Bool) → leb (2 ^ persons a) A ≡ b → refused_if b Absence (Ok tt) ≡ Err Absence → 2 ^ persons a ≤ A
       go true y e = leb-true (2 ^ persons a) A y
       go false y e = never (cc)

@@ -1,12 +1,10 @@
 -- Every question over accounts has one reply; where every row is its own person it is that of before; and only which rows share a person number
 -- matters. Assumes nothing.
-use Rattle.std.specs.Prelude.{◌≡◌, ℕ, ◌^◌, ◌<◌, ltb}
+use Rattle.std.specs.Prelude.{◌≡◌, ℕ, ◌^◌, ◌<◌, ltb, Ok, Result}
 use Rattle.std.proofs.Common.{sym, ◌∙◌, subst, inl, inr}
 use Rattle.std.proofs.Math.Path.{ap}
 use Rattle.roster.specs.declared.Table.{Table}
 use Rattle.roster.specs.declared.Refusal.TheVariants.{Rows}
-use Rattle.roster.specs.declared.Ruling.{Ruling}
-use Rattle.roster.specs.declared.Ruling.TheVariants as ruling
 use Rattle.roster.specs.declared.Reply.{Reply}
 use Rattle.roster.specs.Limits.{row_limit}
 use Rattle.roster.specs.Refusals.{refused_if}
@@ -27,6 +25,7 @@ use Rattle.accounts.proofs.Laws.Merged.{own_table, renamed}
 use Rattle.questions.specs.Asked.{Behind, PolicyAsked, NamedAsked}
 use Rattle.questions.specs.Replied.{policy_answer_of, named_answer_of}
 use Rattle.questions.specs.Laws.Behind.{behind_is, behind_same}
+use Rattle.roster.specs.declared.Refusal.{Refusal}
 
 -- ---- demand 1: every question has a reply, and only one
 
@@ -69,12 +68,12 @@ module _ (a : Accounts) (different : Different a) where
 module _ (a b : Accounts) (alike : Alike a b) where
   ruled_alike : accounts_ruling a ≡ accounts_ruling b
   unfolding accounts_ruling
-  ruled_alike = ap (λ (n : ℕ). refused_if (ltb row_limit n) Rows ruling.Admitted) alike.count
+  ruled_alike = ap (λ (n : ℕ). refused_if (ltb row_limit n) Rows (Ok tt)) alike.count
 
   -- what is allowed behind the one is allowed behind the other
   behind_alike : (Allowed : Table → Reply → Type 0) (r : Reply) → Behind (accounts_ruling a) (Allowed (merged a)) r → Behind (accounts_ruling b) (Allowed (merged b)) r
   behind_alike Allowed r k =
-      subst (λ (x : Ruling). Behind x (Allowed (merged b)) r) ruled_alike
+      subst (λ (x : Result Unit Refusal). Behind x (Allowed (merged b)) r) ruled_alike
       (subst (λ (table : Table). Behind (accounts_ruling a) (Allowed table) r) (renamed a b alike) k)
 
   pub policy_renamed : (way : Way) (P s d t ed allowance : ℕ) → P < 2 ^ 32 → (r q : Reply)

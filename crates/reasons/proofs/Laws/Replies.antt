@@ -1,11 +1,9 @@
 -- Every "why" has a reply and only one: it falls under one of four kinds. Assumes nothing.
-use Rattle.std.specs.Prelude.{◌≡◌, true, false, List, ℕ, ◌^◌, ◌≤◌, ◌<◌}
+use Rattle.std.specs.Prelude.{◌≡◌, true, false, List, ℕ, ◌^◌, ◌≤◌, ◌<◌, Err, Ok, Result}
 use Rattle.std.proofs.Common.{sym, ap, ap₂, ◌∙◌, subst, ⊎_elim, arith, le-leb}
 use Rattle.std.proofs.Math.Decide.{dec_le}
 use Rattle.std.proofs.lemmas.Bool.{lt-leb}
 use Rattle.roster.specs.declared.Refusal.{Refusal}
-use Rattle.roster.specs.declared.Ruling.{Ruling}
-use Rattle.roster.specs.declared.Ruling.TheVariants as ruling
 use Rattle.roster.specs.Meaning.{CrewList, Blocks}
 use Rattle.crews.specs.Filling.{Outcome, filling}
 use Rattle.crews.proofs.Laws.Exact.{Fair, list-found, blocks_none, decide}
@@ -24,22 +22,22 @@ use Rattle.reasons.proofs.Laws.Reasons.{reason_unique, reason_given}
 -- ---- the four kinds
 
 pub data Kind (a : Accounts) (P d t ed A allowance : ℕ) : Type 0 where
-  refused : (refusal : Refusal) → persons_ruling a P d t ed A ≡ ruling.Refused refusal → Kind a P d t ed A allowance
-  undecided : persons_ruling a P d t ed A ≡ ruling.Admitted → allowance < need_why a P d t ed A → Kind a P d t ed A allowance
-  nothing : persons_ruling a P d t ed A ≡ ruling.Admitted → need_why a P d t ed A ≤ allowance
+  refused : (refusal : Refusal) → persons_ruling a P d t ed A ≡ Err refusal → Kind a P d t ed A allowance
+  undecided : persons_ruling a P d t ed A ≡ Ok tt → allowance < need_why a P d t ed A → Kind a P d t ed A allowance
+  nothing : persons_ruling a P d t ed A ≡ Ok tt → need_why a P d t ed A ≤ allowance
       → (crews : List ℕ) → CrewList (merged a) P d t ed A crews → Kind a P d t ed A allowance
-  blocked : persons_ruling a P d t ed A ≡ ruling.Admitted → need_why a P d t ed A ≤ allowance → Blocks (merged a) P d t ed A → Kind a P d t ed A allowance
+  blocked : persons_ruling a P d t ed A ≡ Ok tt → need_why a P d t ed A ≤ allowance → Blocks (merged a) P d t ed A → Kind a P d t ed A allowance
 
 module _ (a : Accounts) (P d t ed A : ℕ) (wide : P < 2 ^ 32) where
   -- an admitted question has what exactness needs
-  pub why_fair : persons_ruling a P d t ed A ≡ ruling.Admitted → Fair (merged a) P d × (A < 2 ^ persons a)
+  pub why_fair : persons_ruling a P d t ed A ≡ Ok tt → Fair (merged a) P d × (A < 2 ^ persons a)
   why_fair e = admitted_fair (merged a) P d t ed A wide (persons_admitted a P d t ed A e)
 
   pub why_kind : (allowance : ℕ) → Kind a P d t ed A allowance
   why_kind allowance =
       ⊎_elim (λ e. admitted e (dec_le (need_why a P d t ed A) allowance)) (λ x. refused x.0 x.1) (ruled (persons_ruling a P d t ed A))
     where
-      admitted : persons_ruling a P d t ed A ≡ ruling.Admitted → Dec (need_why a P d t ed A ≤ allowance) → Kind a P d t ed A allowance
+      admitted : persons_ruling a P d t ed A ≡ Ok tt → Dec (need_why a P d t ed A ≤ allowance) → Kind a P d t ed A allowance
       admitted e (no n) = undecided e (omega arith)
       admitted e (yes l) =
           let f = why_fair e in
@@ -52,7 +50,7 @@ pub never : {A : Type 0} → ◌≡◌ {A = ℕ} 0 1 → A
 never e = absurd (omega arith)
 
 module _ (a : Accounts) (P d t ed A allowance : ℕ) (r : Explained) where
-  pub is_refused_lem : (refusal : Refusal) → persons_ruling a P d t ed A ≡ ruling.Refused refusal → r ≡ explained_with (explanation.Refused refusal) 0
+  pub is_refused_lem : (refusal : Refusal) → persons_ruling a P d t ed A ≡ Err refusal → r ≡ explained_with (explanation.Refused refusal) 0
       → WhyReply a P d t ed A allowance r
   is_refused_lem refusal e h = record {
     refused = λ other o. let same : refusal ≡ other = cc in h ∙ ap (λ (x : Refusal). explained_with (explanation.Refused x) 0) same;
@@ -61,7 +59,7 @@ module _ (a : Accounts) (P d t ed A allowance : ℕ) (r : Explained) where
     reason = λ o l b. never (cc);
   }
 
-  pub is_undecided : persons_ruling a P d t ed A ≡ ruling.Admitted → allowance < need_why a P d t ed A → r ≡ explained_with explanation.Undecided allowance
+  pub is_undecided : persons_ruling a P d t ed A ≡ Ok tt → allowance < need_why a P d t ed A → r ≡ explained_with explanation.Undecided allowance
       → WhyReply a P d t ed A allowance r
   is_undecided e l h = record {
     refused = λ refusal o. never (cc);
@@ -70,7 +68,7 @@ module _ (a : Accounts) (P d t ed A allowance : ℕ) (r : Explained) where
     reason = λ o k b. absurd (omega arith);
   }
 
-  pub is_nothing : persons_ruling a P d t ed A ≡ ruling.Admitted → need_why a P d t ed A ≤ allowance
+  pub is_nothing : persons_ruling a P d t ed A ≡ Ok tt → need_why a P d t ed A ≤ allowance
       → (crews : List ℕ) → CrewList (merged a) P d t ed A crews → r ≡ explained_with explanation.Nothing (need_why a P d t ed A)
       → WhyReply a P d t ed A allowance r
   is_nothing e l crews c h = record {
@@ -80,7 +78,7 @@ module _ (a : Accounts) (P d t ed A allowance : ℕ) (r : Explained) where
     reason = λ o k b. absurd (b crews c);
   }
 
-  pub is_reason : persons_ruling a P d t ed A ≡ ruling.Admitted → need_why a P d t ed A ≤ allowance → Blocks (merged a) P d t ed A
+  pub is_reason : persons_ruling a P d t ed A ≡ Ok tt → need_why a P d t ed A ≤ allowance → Blocks (merged a) P d t ed A
       → Reason (merged a) P d t ed A r.why → r.units ≡ need_why a P d t ed A → WhyReply a P d t ed A allowance r
   is_reason e l b x u = record {
     refused = λ refusal o. never (cc);
@@ -92,15 +90,15 @@ module _ (a : Accounts) (P d t ed A allowance : ℕ) (r : Explained) where
 -- ---- there is a reply
 
 over : (allowance : ℕ) (o : Outcome) (w : Explanation) → allowance < o.need
-    → explained_by ruling.Admitted allowance o w ≡ explained_with explanation.Undecided allowance
+    → explained_by (Ok tt) allowance o w ≡ explained_with explanation.Undecided allowance
 over allowance o w l = rw (lt-leb o.need allowance l, explained_by)
 
 complete : (allowance : ℕ) (o : Outcome) (w : Explanation) → o.need ≤ allowance → o.found ≡ true
-    → explained_by ruling.Admitted allowance o w ≡ explained_with explanation.Nothing o.need
+    → explained_by (Ok tt) allowance o w ≡ explained_with explanation.Nothing o.need
 complete allowance o w l f = rw (le-leb o.need allowance l, f, explained_by)
 
 exhausted : (allowance : ℕ) (o : Outcome) (w : Explanation) → o.need ≤ allowance → o.found ≡ false
-    → explained_by ruling.Admitted allowance o w ≡ explained_with w o.need
+    → explained_by (Ok tt) allowance o w ≡ explained_with w o.need
 exhausted allowance o w l f = rw (le-leb o.need allowance l, f, explained_by)
 
 module _ (a : Accounts) (P d t ed A allowance : ℕ) (wide : P < 2 ^ 32) where
@@ -113,8 +111,8 @@ module _ (a : Accounts) (P d t ed A allowance : ℕ) (wide : P < 2 ^ 32) where
       w : Explanation
       w = reason_of (merged a) P d t ed A
 
-      under : {x : Ruling} → persons_ruling a P d t ed A ≡ x → why_reply_of a P d t ed A allowance ≡ explained_by x allowance o w
-      under e = ap (λ (x : Ruling). explained_by x allowance o w) e
+      under : {x : Result Unit Refusal} → persons_ruling a P d t ed A ≡ x → why_reply_of a P d t ed A allowance ≡ explained_by x allowance o w
+      under e = ap (λ (x : Result Unit Refusal). explained_by x allowance o w) e
 
       go : Kind a P d t ed A allowance → WhyReply a P d t ed A allowance (why_reply_of a P d t ed A allowance)
       go (refused refusal e) = is_refused_lem a P d t ed A allowance _ refusal e (under e)

@@ -1,14 +1,12 @@
 -- s, d, t or an edition that does not go into its byte: the layout could not say it, and the fault is 3, 4, 5 or 25 of that policy or an earlier one.
 -- Assumes nothing.
-use Rattle.std.specs.Prelude.{◌≡◌, refl, ◌⊎◌, Bool, true, false, List, [], ◌∷◌, ◌++◌, ℕ, eqb, length}
+use Rattle.std.specs.Prelude.{◌≡◌, refl, ◌⊎◌, Bool, true, false, List, [], ◌∷◌, ◌++◌, ℕ, eqb, length, Err, Ok, Result}
 use Rattle.std.proofs.Common.{ap, ◌∙◌, inl, inr, arith}
 use Rattle.std.proofs.Math.Option.{Option, some, none}
 use Rattle.roster.specs.Refusals.{own_ruling, made_by}
 use Rattle.roster.specs.declared.Policy.{Policy}
 use Rattle.roster.specs.declared.Refusal.{Refusal}
 use Rattle.roster.specs.declared.Refusal.TheVariants as refusal
-use Rattle.roster.specs.declared.Ruling.{Ruling}
-use Rattle.roster.specs.declared.Ruling.TheVariants as ruling
 use Rattle.book.specs.Layout.{Contents}
 use Rattle.book.specs.Faults.{fault_number}
 use Rattle.book.specs.Reading.{amiss_if, past_listed, by_made, codes, rows_of, policies_of}
@@ -35,14 +33,14 @@ record Narrowed (l m : List Amiss) : Type 0 where
   told : first_of l ≡ or_else (first_of m) (some fault)
 
 -- P tells its fault, and else s, d, t or the edition does
-told_of_lem : (past zeroTask : Bool) (r : Ruling) (p : Policy) (more : List Amiss) → MayRule zeroTask r → (r ≡ ruling.Admitted → ⊥)
+told_of_lem : (past zeroTask : Bool) (r : Result Unit Refusal) (p : Policy) (more : List Amiss) → MayRule zeroTask r → (r ≡ Ok tt → ⊥)
     → Narrowed (amiss_if past fault.Task 0 (by_made (made_by r p)) ∷ more) (task_look past zeroTask ∷ [])
 unfolding first_of
-told_of_lem past zeroTask ruling.Admitted p more m n = absurd (n refl)
-told_of_lem true zeroTask (ruling.Refused x) p more m n = record { fault = fault.Policy refusal.Away; number = inl (omega arith, omega arith); told = refl }
-told_of_lem false true (ruling.Refused x) p more m n =
+told_of_lem past zeroTask (Ok tt) p more m n = absurd (n refl)
+told_of_lem true zeroTask (Err x) p more m n = record { fault = fault.Policy refusal.Away; number = inl (omega arith, omega arith); told = refl }
+told_of_lem false true (Err x) p more m n =
     record { fault = fault.Policy refusal.Away; number = inl (omega arith, omega arith); told = ap (λ (y : Refusal). some (fault.Policy y)) m }
-told_of_lem false false (ruling.Refused x) p more m n = record { fault = fault.Policy x; number = m; told = refl }
+told_of_lem false false (Err x) p more m n = record { fault = fault.Policy x; number = m; told = refl }
 
 -- ---- behind all that comes before it
 

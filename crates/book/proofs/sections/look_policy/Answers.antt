@@ -29,19 +29,19 @@ returns-then-past_listed c = let a = c.args in
     (ap (placed (policy_widths (form_has_editions a.form)) a.at)
     (amiss_here Task 0 _ (c.past_listed.ensures ∙ ap (past_listed _) c.four.ensures) c.if-past_listed.true))
 
-pub returns-in-Refused : goal.returns-in-Refused
+pub returns-in-Err : goal.returns-in-Err
 unfolding entry_look fields_at
-returns-in-Refused c = let a = c.args in
-    past_fault Short _ (short (goal.at.returns-in-Refused c).After-cut) c.if-cut.false
-    (ap (Faulty (Policy c.in-Refused.refusal)) (ap (λ (n : ℕ). a.at + n) c.policy_offset.ensures ∙ (policy_field (form_has_editions a.form) c.in-Refused.refusal a.at).1)
+returns-in-Err c = let a = c.args in
+    past_fault Short _ (short (goal.at.returns-in-Err c).After-cut) c.if-cut.false
+    (ap (Faulty (Policy c.in-Err.refusal)) (ap (λ (n : ℕ). a.at + n) c.policy_offset.ensures ∙ (policy_field (form_has_editions a.form) c.in-Err.refusal a.at).1)
     ∙ ap (placed (policy_widths (form_has_editions a.form)) a.at)
     (past_amiss Task 0 (c.past_listed.ensures ∙ ap (past_listed _) c.four.ensures) c.if-past_listed.false
-    (ap by_made (sym c.in-Refused.is ∙ c.policy_from.ensures))))
+    (ap by_made (sym c.in-Err.is ∙ c.policy_from.ensures))))
 
-pub returns-in-Policy : goal.returns-in-Policy
+pub returns-in-Ok : goal.returns-in-Ok
 unfolding entry_look fields_at
-returns-in-Policy c = let a = c.args in
-    past_fault Short _ (short (goal.at.returns-in-Policy c).After-cut) c.if-cut.false
+returns-in-Ok c = let a = c.args in
+    past_fault Short _ (short (goal.at.returns-in-Ok c).After-cut) c.if-cut.false
     (ap (placed (policy_widths (form_has_editions a.form)) a.at)
     (past_amiss Task 0 (c.past_listed.ensures ∙ ap (past_listed _) c.four.ensures) c.if-past_listed.false
-    (ap by_made (sym c.in-Policy.is ∙ c.policy_from.ensures))))
+    (ap by_made (sym c.in-Ok.is ∙ c.policy_from.ensures))))
