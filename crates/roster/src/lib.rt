@@ -17,7 +17,7 @@ pub struct Table {
 
 // Any `away` people absent, still `crews` separate crews of at most `size`, each holding every permission of `task`; by the rule of this
 // edition, of which the second asks for two members in each crew.
-#[derive(Clone, Copy)]
+#[derive(Clone, Copy, Debug, PartialEq, Eq)]
 pub struct Policy {
     pub task: u32,
     pub away: u32,
@@ -27,7 +27,7 @@ pub struct Policy {
 }
 
 // Why a question is refused. `number` gives the number that is published for each.
-#[derive(Clone, Copy)]
+#[derive(Clone, Copy, Debug, PartialEq, Eq)]
 pub enum Refusal {
     Rows,
     Task,
@@ -39,7 +39,7 @@ pub enum Refusal {
 }
 
 // What a question is answered with. `Crews` and `None` answer a named absence, `Yes` and `No` a policy.
-#[derive(Clone, Copy)]
+#[derive(Clone, Copy, Debug, PartialEq, Eq)]
 pub enum Verdict {
     Yes,
     No,
@@ -50,7 +50,7 @@ pub enum Verdict {
 }
 
 // The whole reply: specs/Replies sets out which values go with each verdict.
-#[derive(Clone, Copy)]
+#[derive(Clone, Copy, Debug, PartialEq, Eq)]
 pub struct Reply {
     pub verdict: Verdict,
     pub crews: [u64; Policy::CREWS],
@@ -92,15 +92,26 @@ impl Policy {
 
 // Every reply is made here, one maker for each row of the table "What comes back".
 impl Reply {
+    // The verdict with nothing beside it.
+    fn bare(verdict: Verdict) -> Reply
+        ensures { result ≡ record { verdict = verdict; crews = no_crews; blocker = 0; units = 0 } }
+    {
+        Reply {
+            verdict,
+            crews: [0; Policy::CREWS],
+            blocker: 0,
+            units: 0,
+        }
+    }
+
     // The policy holds: the first list with nobody absent.
     pub fn yes(crews: [u64; Policy::CREWS], need: u32) -> Reply
         ensures { result ≡ reply_with crews 0 need 0 Verdict.Yes }
     {
         Reply {
-            verdict: Verdict::Yes,
-            crews: crews,
-            blocker: 0,
+            crews,
             units: need,
+            ..Reply::bare(Verdict::Yes)
         }
     }
 
@@ -109,10 +120,9 @@ impl Reply {
         ensures { result ≡ reply_with no_crews blocker need 0 Verdict.No }
     {
         Reply {
-            verdict: Verdict::No,
-            crews: [0; Policy::CREWS],
-            blocker: blocker,
+            blocker,
             units: need,
+            ..Reply::bare(Verdict::No)
         }
     }
 
@@ -121,10 +131,8 @@ impl Reply {
         ensures { result ≡ reply_with no_crews 0 0 allowance Verdict.Undecided }
     {
         Reply {
-            verdict: Verdict::Undecided,
-            crews: [0; Policy::CREWS],
-            blocker: 0,
             units: allowance,
+            ..Reply::bare(Verdict::Undecided)
         }
     }
 
@@ -133,10 +141,9 @@ impl Reply {
         ensures { result ≡ reply_with crews 0 need 0 Verdict.Crews }
     {
         Reply {
-            verdict: Verdict::Crews,
-            crews: crews,
-            blocker: 0,
+            crews,
             units: need,
+            ..Reply::bare(Verdict::Crews)
         }
     }
 
@@ -145,10 +152,8 @@ impl Reply {
         ensures { result ≡ reply_with no_crews 0 need 0 Verdict.None }
     {
         Reply {
-            verdict: Verdict::None,
-            crews: [0; Policy::CREWS],
-            blocker: 0,
             units: need,
+            ..Reply::bare(Verdict::None)
         }
     }
 
@@ -156,12 +161,7 @@ impl Reply {
     pub fn refused(refusal: Refusal) -> Reply
         ensures { result ≡ reply_with no_crews 0 0 0 (Verdict.Refused refusal) }
     {
-        Reply {
-            verdict: Verdict::Refused(refusal),
-            crews: [0; Policy::CREWS],
-            blocker: 0,
-            units: 0,
-        }
+        Reply::bare(Verdict::Refused(refusal))
     }
 }
 
