@@ -55,10 +55,10 @@ impl Filling {
     {
         let crews = [0; Policy::CREWS];
         Filling {
-            crews: crews,
+            crews,
             closed: 0,
             crew: 0,
-            free: free,
+            free,
             held: 0,
             from: 0,
         }
@@ -69,15 +69,13 @@ impl Filling {
         requires { row < row_limit }
         ensures { result ≡ place_of self row holds }
     {
-        let crews = self.crews;
         let from = if self.crew == 0 { row + 1 } else { self.from };
         Filling {
-            crews: crews,
-            closed: self.closed,
             crew: self.crew | (1u64 << row),
             free: self.free ^ (1u64 << row),
             held: self.held | holds,
-            from: from,
+            from,
+            ..self
         }
     }
 
@@ -90,12 +88,11 @@ impl Filling {
         let mut crews = self.crews;
         crews[at] = self.crew;
         Filling {
-            crews: crews,
+            crews,
             closed: at + 1,
             crew: 0,
-            free: self.free,
             held: 0,
-            from: self.from,
+            ..self
         }
     }
 
@@ -151,8 +148,8 @@ impl Filling {
     {
         let crews = self.crews;
         Filled {
-            crews: crews,
-            units: units,
+            crews,
+            units,
             ending: Ending::Complete,
         }
     }
@@ -165,8 +162,8 @@ impl Filled {
     {
         Filled {
             crews: [0; Policy::CREWS],
-            units: units,
-            ending: ending,
+            units,
+            ending,
         }
     }
 }
@@ -319,12 +316,8 @@ pub fn holdings_within(table: Table, task: u32) -> [u32; Policy::ROWS]
     let holdings = table.holdings;
     let rows = table.rows;
     let mut within = [0u32; Policy::ROWS];
-    let mut row: usize = 0;
-    while row < Policy::ROWS {
-        if row < rows {
-            within[row] = holdings[row] & task;
-        }
-        row += 1;
+    for row in 0..rows.min(Policy::ROWS) {
+        within[row] = holdings[row] & task;
     }
     within
 }
@@ -335,12 +328,10 @@ fn holders_at(holds: &[u32; Policy::ROWS], permission: usize) -> u64
     ensures { result ≡ holders_of (at holds.now) permission }
 {
     let mut set: u64 = 0;
-    let mut row: usize = 0;
-    while row < Policy::ROWS {
+    for row in 0..Policy::ROWS {
         if (holds[row] >> permission) & 1 == 1 {
-            set = set | (1u64 << row);
+            set |= 1u64 << row;
         }
-        row += 1;
     }
     set
 }
@@ -351,10 +342,8 @@ pub fn holders_of(holds: &[u32; Policy::ROWS]) -> [u64; 32]
     ensures kept { holds.exit.now ≡ holds.entry.now }
 {
     let mut holders = [0u64; 32];
-    let mut permission: usize = 0;
-    while permission < 32 {
+    for permission in 0..32 {
         holders[permission] = holders_at(holds, permission);
-        permission += 1;
     }
     holders
 }

@@ -2,7 +2,7 @@
 use mathlib.Core.Path.{◌≡◌}
 use mathlib.Core.Bool.{Bool}
 use mathlib.Core.List.{List}
-use Prim.Native.Nat.{ℕ, ◌-◌, ◌≤◌}
+use Prim.Native.Nat.{ℕ, ◌≤◌}
 use Rattle.sets.specs.Members.{hasb, set_of}
 use Rattle.sets.specs.Arrays.{at}
 use Rattle.crews.proofs.holders_at.Given as goal
@@ -14,5 +14,3 @@ holding holds p u = hasb (at holds u) p
 abbrev pub invariant-loop-row : goal.invariant-loop-row
 invariant-loop-row l = (l.row ≤ 64) × (l.set ≡ set_of l.row (holding l.holds l.permission))
 
-abbrev pub decreases-loop-row : goal.decreases-loop-row
-decreases-loop-row l = 64 - l.row

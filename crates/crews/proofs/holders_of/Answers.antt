@@ -1,5 +1,6 @@
 -- The permissions passed have their holders. Assumes nothing.
 use mathlib.Core.Path.{refl}
+use native.Mathlib.Omega.{arith}
 use Rattle.crews.specs.Filling.{holders_of}
 use Rattle.sets.specs.Arrays.{at}
 use Rattle.sets.specs.Laws.Arrays.{passed_none, passed_all}
@@ -10,4 +11,4 @@ loop-permission-init c = passed_none 0 32 (holders_of (at c.args.holds.now))
 
 pub returns : goal.returns
 returns c = let l = c.loop-permission in
-    record { value = passed_all 0 32 (holders_of (at c.args.holds.now)) l.permission l.holders l.invariant c.loop-permission-test.false; kept = refl }
+    record { value = passed_all 0 32 (holders_of (at c.args.holds.now)) l.permission l.holders l.invariant (omega arith); kept = refl }

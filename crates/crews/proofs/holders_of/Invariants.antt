@@ -1,5 +1,4 @@
 -- The permissions passed have their holders. Assumes nothing.
-use Prim.Native.Nat.{◌-◌}
 use Rattle.crews.specs.Filling.{holders_of}
 use Rattle.sets.specs.Arrays.{at}
 use Rattle.sets.specs.Laws.Arrays.{Passed}
@@ -8,5 +7,3 @@ use Rattle.crews.proofs.holders_of.Given as goal
 abbrev pub invariant-loop-permission : goal.invariant-loop-permission
 invariant-loop-permission l = Passed 0 32 (holders_of (at l.holds)) l.permission l.holders
 
-abbrev pub decreases-loop-permission : goal.decreases-loop-permission
-decreases-loop-permission l = 32 - l.permission
