@@ -1,4 +1,5 @@
 -- One absence tried: what it costs, and what filling the crews from the rows that are left comes to. Assumes nothing.
+use Rattle.std.specs.Prelude.{Err}
 use mathlib.Core.Path.{◌≡◌, sym, ap, ap₂, ◌∙◌}
 use mathlib.Core.Logic.{⊎_elim}
 use mathlib.Core.List.{List, [], ◌∷◌}
@@ -20,34 +21,22 @@ use Rattle.crews.specs.Filled.{filled_of, found_from}
 use Rattle.crews.proofs.Laws.Arrays.{lent_filling}
 use Rattle.crews.proofs.Laws.Steps as steps
 use Rattle.absences.specs.declared.Search.{Search}
+use Rattle.absences.specs.declared.Stop.TheVariants.{Undecided}
 use Rattle.absences.specs.Tried.{Found, per_absence, units_of, weighed}
-use Rattle.absences.specs.Inner.Walk.{Lent, course_of, walked_from, walked_of}
+use Rattle.absences.specs.Inner.Walk.{Lent, stands, walked_from, walked_of}
 use Rattle.absences.proofs.Laws.Weighed.{weighed-fits, weighed_blocks, weighed-none, dearer}
-use Rattle.absences.proofs.Spent.{undecided_at, walked_fits, walked_over}
+use Rattle.absences.proofs.Spent.{walked_fits, walked_over}
 
 -- filling from what is lent is 01's filling with A absent
-module _ (table : Table) (s : Search) (holds holders : List ℕ) (lent : Lent table s holds holders) where
-  fills : (free A least : ℕ) → free ≡ bit_and s.everyone ((2 ^ row_limit - 1) - A) → least ≡ least_members s.edition
-      → found_from (orderly (at holds) (at holders) s.task s.crews s.size least) free ≡ filling table s.task s.crews s.size s.edition A
-  fills free A least e two =
-      ap (λ (m : ℕ). found_from (orderly (at holds) (at holders) s.task s.crews s.size m) free) two
-      ∙ ap₂ (λ (h k : List ℕ). found_from (orderly (at h) (at k) s.task s.crews s.size (least_members s.edition)) free) lent.held
-      (lent.holding ∙ ap (λ (h : List ℕ). tabulate 32 (holders_of (at h))) lent.held)
-      ∙ ap (found_from _) (e ∙ ap (λ (all : ℕ). bit_and all ((2 ^ row_limit - 1) - A)) lent.everyone)
-      ∙ lent_filling table s.task s.crews s.size s.edition A lent.small lent.some lent.wide lent.few
-
-  -- so what `fill` answers is what the definition says of A, if the units it began with are those spent before and what an absence costs
-  pub answered : (most spent n free A least : ℕ) (r : Filled)
-      → r ≡ filled_of most n (found_from (orderly (at holds) (at holders) s.task s.crews s.size least) free)
-      → free ≡ bit_and s.everyone ((2 ^ row_limit - 1) - A) → least ≡ least_members s.edition → n ≡ spent + per_absence
-      → r ≡ filled_of most (spent + per_absence) (filling table s.task s.crews s.size s.edition A)
-  answered most spent n free A least r e f two paid = e ∙ ap₂ (filled_of most) paid (fills free A least f two)
-
-  -- with nobody absent everyone is left
-  pub nobody : s.everyone ≡ bit_and s.everyone ((2 ^ row_limit - 1) - 0)
-  nobody =
-      let wide : s.everyone < 2 ^ 64 = omega (arith, lent.everyone, pow_mono {i = table.rows} {j = 64} lent.small, ones_lt table.rows) in
-      sym (and_mask s.everyone 64 ∙ mod-eq_of_lt wide)
+pub fills : (table : Table) (s : Search) → Lent table s → (free A least : ℕ) → free ≡ bit_and s.everyone ((2 ^ row_limit - 1) - A)
+    → least ≡ least_members s.edition
+    → found_from (orderly (at s.holds) (at s.holders) s.task s.crews s.size least) free ≡ filling table s.task s.crews s.size s.edition A
+fills table s lent free A least e two =
+    ap (λ (m : ℕ). found_from (orderly (at s.holds) (at s.holders) s.task s.crews s.size m) free) two
+    ∙ ap₂ (λ (h k : List ℕ). found_from (orderly (at h) (at k) s.task s.crews s.size (least_members s.edition)) free) lent.held
+    (lent.holding ∙ ap (λ (h : List ℕ). tabulate 32 (holders_of (at h))) lent.held)
+    ∙ ap (found_from _) (e ∙ ap (λ (all : ℕ). bit_and all ((2 ^ row_limit - 1) - A)) lent.everyone)
+    ∙ lent_filling table s.task s.crews s.size s.edition A lent.small lent.some lent.wide lent.few
 
 -- whether it blocks or not
 alone_costs : (table : Table) (P d t ed A : ℕ) → (weighed (filling table P d t ed) (A ∷ [])).need ≡ units_of (filling table P d t ed A)
@@ -72,9 +61,9 @@ module _ (table : Table) (P d t ed most spent A : ℕ) (r : Filled) (e : r ≡ f
   units h = ap (λ (x : Filled). x.units) (e ∙ steps.filled-fits most (spent + per_absence) o h) ∙ omega (arith, alone-need)
 
   -- an outcome that the allowance is enough for
-  fits : (w : Found) → alone ≡ w → (spent + per_absence) + o.need ≤ most → record { course = course_of w.blocked; blocker = w.blocker; units = r.units } ≡ walked_of most spent alone
+  fits : (w : Found) → alone ≡ w → (spent + per_absence) + o.need ≤ most → stands w.blocked w.blocker r.units ≡ walked_of most spent alone
   fits w f h =
-      ap₂ (λ (x : Found) (n : ℕ). record { course = course_of x.blocked; blocker = x.blocker; units = n }) (sym f) (units h)
+      ap₂ (λ (x : Found) (n : ℕ). stands x.blocked x.blocker n) (sym f) (units h)
       ∙ sym (walked_fits most spent alone (omega (arith, alone-need)))
 
   -- what the filling says of the absence
@@ -91,11 +80,10 @@ module _ (table : Table) (P d t ed most spent A : ℕ) (r : Filled) (e : r ≡ f
       go (steps.is_exhausted b w u l) = told ending.Exhausted w ∙ fits _ (weighed_blocks (filling table P d t ed) A [] b) (omega arith)
       go (steps.is_over h w) =
           told ending.Undecided w
-          ∙ ap undecided_at (ap (λ (x : Filled). x.units) (e ∙ steps.filled-over most (spent + per_absence) o h))
           ∙ sym (walked_over most spent alone (omega (arith, alone-need)))
 
 -- too few units are left to try it
 pub absent_spent : (table : Table) (P d t ed most spent A : ℕ) → most < spent + per_absence
-    → undecided_at most ≡ walked_of most spent (weighed (filling table P d t ed) (A ∷ []))
+    → Err Undecided ≡ walked_of most spent (weighed (filling table P d t ed) (A ∷ []))
 absent_spent table P d t ed most spent A l =
     sym (walked_over most spent (weighed (filling table P d t ed) (A ∷ [])) (omega (arith, alone_costs table P d t ed A)))

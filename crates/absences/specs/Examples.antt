@@ -8,7 +8,7 @@ use Rattle.roster.specs.declared.Reply.{Reply}
 use Rattle.roster.specs.Limits.{row_limit, crew_limit}
 use Rattle.roster.specs.Replies.{no_crews}
 use Rattle.crews.specs.Named.{NamedReply, named_reply_of}
-use Rattle.absences.specs.Tried.{Way, full, skipping}
+use Rattle.absences.specs.Tried.{Way, Full, Skipping}
 use Rattle.absences.specs.Asked.{PolicyReply}
 use Rattle.absences.specs.Replied.{policy_reply_of}
 
@@ -99,16 +99,16 @@ by_name =
 abbrev pub examples : List Example
 examples =
     -- a
-    record { question = policy skipping H 3 1 2 2 1 ample; reply = yes_with ((0 ∷ []) ∷ (1 ∷ 2 ∷ []) ∷ []) 8 }
+    record { question = policy Skipping H 3 1 2 2 1 ample; reply = yes_with ((0 ∷ []) ∷ (1 ∷ 2 ∷ []) ∷ []) 8 }
     -- b
-    ∷ record { question = policy full H 3 1 2 2 1 ample; reply = yes_with ((0 ∷ []) ∷ (1 ∷ 2 ∷ []) ∷ []) 19 }
+    ∷ record { question = policy Full H 3 1 2 2 1 ample; reply = yes_with ((0 ∷ []) ∷ (1 ∷ 2 ∷ []) ∷ []) 19 }
     -- c
-    ∷ record { question = policy skipping H 3 2 2 2 1 ample; reply = no_with (0 ∷ 3 ∷ []) 11 }
+    ∷ record { question = policy Skipping H 3 2 2 2 1 ample; reply = no_with (0 ∷ 3 ∷ []) 11 }
     -- d
-    ∷ record { question = policy full H 3 2 2 2 1 ample; reply = no_with (0 ∷ 3 ∷ []) 22 }
+    ∷ record { question = policy Full H 3 2 2 2 1 ample; reply = no_with (0 ∷ 3 ∷ []) 22 }
     -- e: "c with allowance 10"
-    ∷ record { question = policy skipping H 3 2 2 2 1 10; reply = undecided_with 10 }
-    ∷ (by_either skipping ++ by_either full ++ by_name)
+    ∷ record { question = policy Skipping H 3 2 2 2 1 10; reply = undecided_with 10 }
+    ∷ (by_either Skipping ++ by_either Full ++ by_name)
 
 -- ---- the fact
 

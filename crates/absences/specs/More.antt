@@ -11,7 +11,7 @@ use Rattle.roster.specs.declared.Refusal.{Refusal}
 use Rattle.roster.specs.declared.Refusal.TheVariants.{Rows, Task, Away, Crews, Size, Absence, Edition}
 use Rattle.roster.specs.Meaning.{least_members, outweighsb, ahead, rank}
 use Rattle.crews.specs.Filling.{place_of, close_of, closes_of, placed_of, pool_of, candidates, try_each, search}
-use Rattle.absences.specs.Tried.{row_from, Way, full, skipping, joins, listed, sizes_from, weighed}
+use Rattle.absences.specs.Tried.{row_from, Way, Full, Skipping, joins, listed, sizes_from, weighed}
 use Rattle.absences.specs.Asked.{found_before}
 use Rattle.absences.specs.Examples.{policy, named, Example, table_of, set_of_rows, yes_with, no_with, crews-with, none-with, undecided_with, refused_with_lem, ample, H}
 
@@ -86,42 +86,42 @@ by_second way =
 abbrev pub by_skipping : List Example
 by_skipping =
     -- any one or two away, but not the three who hold permission 3
-    record { question = policy skipping W 13 1 1 64 1 ample; reply = yes_with ((1 ∷ 2 ∷ []) ∷ []) 6 }
-    ∷ record { question = policy skipping W 13 2 1 3 1 ample; reply = yes_with ((1 ∷ 2 ∷ []) ∷ []) 15 }
-    ∷ record { question = policy skipping W 13 3 1 2 1 ample; reply = no_with (2 ∷ 4 ∷ 5 ∷ []) 27 }
+    record { question = policy Skipping W 13 1 1 64 1 ample; reply = yes_with ((1 ∷ 2 ∷ []) ∷ []) 6 }
+    ∷ record { question = policy Skipping W 13 2 1 3 1 ample; reply = yes_with ((1 ∷ 2 ∷ []) ∷ []) 15 }
+    ∷ record { question = policy Skipping W 13 3 1 2 1 ample; reply = no_with (2 ∷ 4 ∷ 5 ∷ []) 27 }
     -- three crews of two, unless both who hold all are away
-    ∷ record { question = policy skipping twice 3 2 3 2 1 ample; reply = no_with (2 ∷ 5 ∷ []) 23 }
+    ∷ record { question = policy Skipping twice 3 2 3 2 1 ample; reply = no_with (2 ∷ 5 ∷ []) 23 }
     -- two crews: any one away, but not rows 1 and 2
-    ∷ record { question = policy skipping W 13 1 2 2 1 ample; reply = yes_with ((1 ∷ 2 ∷ []) ∷ (4 ∷ 5 ∷ []) ∷ []) 10 }
-    ∷ record { question = policy skipping W 13 64 2 64 1 ample; reply = no_with (1 ∷ 2 ∷ []) 18 }
+    ∷ record { question = policy Skipping W 13 1 2 2 1 ample; reply = yes_with ((1 ∷ 2 ∷ []) ∷ (4 ∷ 5 ∷ []) ∷ []) 10 }
+    ∷ record { question = policy Skipping W 13 64 2 64 1 ample; reply = no_with (1 ∷ 2 ∷ []) 18 }
     -- equal rows: the first of a kind is absent before the others
-    ∷ record { question = policy skipping E 3 2 1 2 1 ample; reply = no_with (2 ∷ 4 ∷ []) 16 }
-    ∷ record { question = policy skipping E 3 1 2 64 1 ample; reply = no_with (2 ∷ []) 15 }
-    ∷ record { question = policy skipping (table_of (1 ∷ 1 ∷ [])) 1 64 1 1 1 ample; reply = no_with (0 ∷ 1 ∷ []) 5 }
-    ∷ record { question = policy skipping (all_of 9) 1 1 8 1 1 ample; reply = yes_with eight 18 }
+    ∷ record { question = policy Skipping E 3 2 1 2 1 ample; reply = no_with (2 ∷ 4 ∷ []) 16 }
+    ∷ record { question = policy Skipping E 3 1 2 64 1 ample; reply = no_with (2 ∷ []) 15 }
+    ∷ record { question = policy Skipping (table_of (1 ∷ 1 ∷ [])) 1 64 1 1 1 ample; reply = no_with (0 ∷ 1 ∷ []) 5 }
+    ∷ record { question = policy Skipping (all_of 9) 1 1 8 1 1 ample; reply = yes_with eight 18 }
     -- a no and a yes, each with just the need and with one unit less; one unit, and none
-    ∷ record { question = policy skipping W 13 3 1 2 1 27; reply = no_with (2 ∷ 4 ∷ 5 ∷ []) 27 }
-    ∷ record { question = policy skipping W 13 3 1 2 1 26; reply = undecided_with 26 }
-    ∷ record { question = policy skipping W 13 1 1 64 1 6; reply = yes_with ((1 ∷ 2 ∷ []) ∷ []) 6 }
-    ∷ record { question = policy skipping W 13 1 1 64 1 5; reply = undecided_with 5 }
-    ∷ record { question = policy skipping W 13 1 1 64 1 1; reply = undecided_with 1 }
-    ∷ record { question = policy skipping W 13 1 1 64 1 0; reply = undecided_with 0 }
+    ∷ record { question = policy Skipping W 13 3 1 2 1 27; reply = no_with (2 ∷ 4 ∷ 5 ∷ []) 27 }
+    ∷ record { question = policy Skipping W 13 3 1 2 1 26; reply = undecided_with 26 }
+    ∷ record { question = policy Skipping W 13 1 1 64 1 6; reply = yes_with ((1 ∷ 2 ∷ []) ∷ []) 6 }
+    ∷ record { question = policy Skipping W 13 1 1 64 1 5; reply = undecided_with 5 }
+    ∷ record { question = policy Skipping W 13 1 1 64 1 1; reply = undecided_with 1 }
+    ∷ record { question = policy Skipping W 13 1 1 64 1 0; reply = undecided_with 0 }
     ∷ []
 
 -- the full search: the same, at a higher need
 abbrev pub by_full : List Example
 by_full =
-    record { question = policy full W 13 1 1 64 1 ample; reply = yes_with ((1 ∷ 2 ∷ []) ∷ []) 23 }
-    ∷ record { question = policy full W 13 3 1 2 1 ample; reply = no_with (2 ∷ 4 ∷ 5 ∷ []) 99 }
-    ∷ record { question = policy full twice 3 2 3 2 1 ample; reply = no_with (2 ∷ 5 ∷ []) 51 }
-    ∷ record { question = policy full W 13 1 2 2 1 ample; reply = yes_with ((1 ∷ 2 ∷ []) ∷ (4 ∷ 5 ∷ []) ∷ []) 39 }
-    ∷ record { question = policy full W 13 64 2 64 1 ample; reply = no_with (1 ∷ 2 ∷ []) 47 }
-    ∷ record { question = policy full E 3 2 1 2 1 ample; reply = no_with (2 ∷ 4 ∷ []) 43 }
-    ∷ record { question = policy full E 3 1 2 64 1 ample; reply = no_with (2 ∷ []) 20 }
-    ∷ record { question = policy full (table_of (1 ∷ 1 ∷ [])) 1 64 1 1 1 ample; reply = no_with (0 ∷ 1 ∷ []) 7 }
-    ∷ record { question = policy full W 13 1 1 64 1 23; reply = yes_with ((1 ∷ 2 ∷ []) ∷ []) 23 }
-    ∷ record { question = policy full W 13 1 1 64 1 22; reply = undecided_with 22 }
-    ∷ record { question = policy full W 13 1 1 64 1 0; reply = undecided_with 0 }
+    record { question = policy Full W 13 1 1 64 1 ample; reply = yes_with ((1 ∷ 2 ∷ []) ∷ []) 23 }
+    ∷ record { question = policy Full W 13 3 1 2 1 ample; reply = no_with (2 ∷ 4 ∷ 5 ∷ []) 99 }
+    ∷ record { question = policy Full twice 3 2 3 2 1 ample; reply = no_with (2 ∷ 5 ∷ []) 51 }
+    ∷ record { question = policy Full W 13 1 2 2 1 ample; reply = yes_with ((1 ∷ 2 ∷ []) ∷ (4 ∷ 5 ∷ []) ∷ []) 39 }
+    ∷ record { question = policy Full W 13 64 2 64 1 ample; reply = no_with (1 ∷ 2 ∷ []) 47 }
+    ∷ record { question = policy Full E 3 2 1 2 1 ample; reply = no_with (2 ∷ 4 ∷ []) 43 }
+    ∷ record { question = policy Full E 3 1 2 64 1 ample; reply = no_with (2 ∷ []) 20 }
+    ∷ record { question = policy Full (table_of (1 ∷ 1 ∷ [])) 1 64 1 1 1 ample; reply = no_with (0 ∷ 1 ∷ []) 7 }
+    ∷ record { question = policy Full W 13 1 1 64 1 23; reply = yes_with ((1 ∷ 2 ∷ []) ∷ []) 23 }
+    ∷ record { question = policy Full W 13 1 1 64 1 22; reply = undecided_with 22 }
+    ∷ record { question = policy Full W 13 1 1 64 1 0; reply = undecided_with 0 }
     ∷ []
 
 -- named absences
@@ -144,15 +144,15 @@ by_name =
 -- asked by either search and by name; by the searches alone; by name alone
 abbrev pub each : (table : Table) (P s d t ed : ℕ) → Refusal → List Example
 each table P s d t ed refusal =
-    record { question = policy skipping table P s d t ed ample; reply = refused_with_lem refusal }
-    ∷ record { question = policy full table P s d t ed ample; reply = refused_with_lem refusal }
+    record { question = policy Skipping table P s d t ed ample; reply = refused_with_lem refusal }
+    ∷ record { question = policy Full table P s d t ed ample; reply = refused_with_lem refusal }
     ∷ record { question = named table P d t ed 0 ample; reply = refused_with_lem refusal }
     ∷ []
 
 abbrev pub searches : (P s d t ed allowance : ℕ) → Refusal → List Example
 searches P s d t ed allowance refusal =
-    record { question = policy skipping H P s d t ed allowance; reply = refused_with_lem refusal }
-    ∷ record { question = policy full H P s d t ed allowance; reply = refused_with_lem refusal }
+    record { question = policy Skipping H P s d t ed allowance; reply = refused_with_lem refusal }
+    ∷ record { question = policy Full H P s d t ed allowance; reply = refused_with_lem refusal }
     ∷ []
 
 abbrev pub alone : (P d t ed A allowance : ℕ) → Refusal → List Example
@@ -190,12 +190,12 @@ by_first =
 -- ---- the fact
 
 abbrev pub more : List Example
-more = by_both skipping ++ by_both full ++ by_second skipping ++ by_second full ++ by_skipping ++ by_full ++ by_name ++ by_one ++ by_first
+more = by_both Skipping ++ by_both Full ++ by_second Skipping ++ by_second Full ++ by_skipping ++ by_full ++ by_name ++ by_one ++ by_first
 
 -- ---- the rule of filling before
 
 -- what three of these questions needed by it
-pub needs_before : (found_before skipping H 3 0 3 1 1).need ∷ (found_before skipping twice 3 2 3 2 1).need ∷ (found_before full twice 3 2 3 2 1).need ∷ []
+pub needs_before : (found_before Skipping H 3 0 3 1 1).need ∷ (found_before Skipping twice 3 2 3 2 1).need ∷ (found_before Full twice 3 2 3 2 1).need ∷ []
     ≡ 10 ∷ 27 ∷ 55 ∷ []
 unfolding bit sum_to to_n cons? members filter hasb set_of ones ones_in count_trailing_zeros ahead rank outweighsb least_members place_of close_of closes_of placed_of pool_of candidates try_each search row_from joins listed sizes_from weighed
 needs_before = refl

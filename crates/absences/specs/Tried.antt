@@ -7,6 +7,9 @@ use Rattle.sets.specs.Sets.{with}
 use Rattle.roster.specs.declared.Table.{Table}
 use Rattle.roster.specs.Meaning.{outweighsb, rank}
 use Rattle.crews.specs.Filling.{Outcome}
+-- "The search that skips tries only these; the full search tries all."
+pub use Rattle.absences.specs.declared.Way.{Way}
+pub use Rattle.absences.specs.declared.Way.TheVariants.{Full, Skipping}
 
 -- the first of the n rows from u on that has rank r
 unfoldable pub row_from : Table → ℕ → ℕ → ℕ → ℕ → ℕ
@@ -21,15 +24,10 @@ row_at table P r = row_from table P r table.rows 0
 abbrev pub outweighers : Table → ℕ → ℕ → ℕ
 outweighers table P v = set_of table.rows (λ u. outweighsb table P u v)
 
--- "The search that skips tries only these; the full search tries all."
-pub data Way : Type 0 where
-  full : Way
-  skipping : Way
-
 -- Whether row v may be added to the absence F: always; or, so that it stays worth trying, if all that outweigh v are in F.
 unfoldable pub joins : Way → Table → ℕ → ℕ → ℕ → Bool
-joins full table P F v = true
-joins skipping table P F v = eqb (bit_and (outweighers table P v) F) (outweighers table P v)
+joins Full table P F v = true
+joins Skipping table P F v = eqb (bit_and (outweighers table P v) F) (outweighers table P v)
 
 -- F with k more of the m rows from rank r on, those with the lower rank first
 unfoldable pub listed : Way → Table → ℕ → ℕ → ℕ → ℕ → ℕ → List ℕ

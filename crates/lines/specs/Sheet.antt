@@ -4,7 +4,7 @@
 use Rattle.std.specs.Prelude.{◌≡◌, List, [], ◌++◌, ℕ, zero, suc, ◌≤◌, ◌<◌, length, drop}
 use Rattle.roster.specs.declared.Policy.{Policy}
 use Rattle.roster.specs.declared.Reply.{Reply}
-use Rattle.absences.specs.Tried.{Way, skipping}
+use Rattle.absences.specs.Tried.{Way, Skipping}
 use Rattle.accounts.specs.declared.Accounts.{Accounts}
 use Rattle.accounts.specs.Persons.{people_of}
 use Rattle.questions.specs.Replied.{policy_answer_of}
@@ -30,7 +30,7 @@ numbers_in book = (people_of (accounts_in book)).numbers
 
 -- "asks by the search that skips"
 abbrev pub way : Way
-way = skipping
+way = Skipping
 
 -- the reply to a policy over these accounts, and over those of a book
 abbrev pub answer_to : Accounts → Policy → Reply

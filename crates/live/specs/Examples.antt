@@ -10,7 +10,7 @@ use Rattle.roster.specs.declared.Table.{Table}
 use Rattle.roster.specs.Meaning.{least_members, outweighsb, ahead, rank}
 use Rattle.roster.specs.Refusals.{policy_ruling, named_ruling}
 use Rattle.crews.specs.Filling.{place_of, close_of, closes_of, placed_of, pool_of, candidates, try_each, search}
-use Rattle.absences.specs.Tried.{row_from, full, skipping, joins, listed, sizes_from, weighed}
+use Rattle.absences.specs.Tried.{row_from, Full, Skipping, joins, listed, sizes_from, weighed}
 use Rattle.absences.specs.Replied.{policy_reply_of}
 use Rattle.absences.specs.Examples.{Example, policy, named, H, table_of as table_with, set_of_rows, yes_with, no_with, crews-with, none-with, ample}
 use Rattle.absences.specs.Examples.{AllAllowed}
@@ -130,12 +130,12 @@ day =
 -- what is asked on the way: sets speak of the table's rows
 abbrev pub asked : List Example
 asked =
-    record { question = policy skipping (table_of four) 3 1 2 2 1 ample; reply = yes_with ((0 ∷ []) ∷ (1 ∷ 2 ∷ []) ∷ []) 8 }
-    ∷ record { question = policy full (table_of four) 3 1 2 2 1 ample; reply = yes_with ((0 ∷ []) ∷ (1 ∷ 2 ∷ []) ∷ []) 19 }
-    ∷ record { question = policy skipping (table_of four) 3 2 2 2 1 ample; reply = no_with (0 ∷ 3 ∷ []) 11 }
-    ∷ record { question = policy skipping (table_of four) 3 1 2 2 2 ample; reply = no_with (0 ∷ []) 13 }
-    ∷ record { question = policy skipping (table_of three) 3 0 1 1 1 ample; reply = yes_with ((2 ∷ []) ∷ []) 3 }
-    ∷ record { question = policy skipping (table_of three) 3 0 1 2 1 ample; reply = yes_with ((0 ∷ 1 ∷ []) ∷ []) 3 }
+    record { question = policy Skipping (table_of four) 3 1 2 2 1 ample; reply = yes_with ((0 ∷ []) ∷ (1 ∷ 2 ∷ []) ∷ []) 8 }
+    ∷ record { question = policy Full (table_of four) 3 1 2 2 1 ample; reply = yes_with ((0 ∷ []) ∷ (1 ∷ 2 ∷ []) ∷ []) 19 }
+    ∷ record { question = policy Skipping (table_of four) 3 2 2 2 1 ample; reply = no_with (0 ∷ 3 ∷ []) 11 }
+    ∷ record { question = policy Skipping (table_of four) 3 1 2 2 2 ample; reply = no_with (0 ∷ []) 13 }
+    ∷ record { question = policy Skipping (table_of three) 3 0 1 1 1 ample; reply = yes_with ((2 ∷ []) ∷ []) 3 }
+    ∷ record { question = policy Skipping (table_of three) 3 0 1 2 1 ample; reply = yes_with ((0 ∷ 1 ∷ []) ∷ []) 3 }
     ∷ record { question = named (table_of three) 3 1 2 1 (set_of_rows (0 ∷ [])) ample; reply = crews-with ((2 ∷ []) ∷ []) 1 }
     ∷ record { question = named (table_of three) 3 2 2 1 (set_of_rows (2 ∷ [])) ample; reply = none-with 2 }
     ∷ []

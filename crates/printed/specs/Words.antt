@@ -8,7 +8,7 @@ use Rattle.roster.specs.declared.Policy.{Policy}
 use Rattle.roster.specs.declared.Reply.{Reply}
 use Rattle.roster.specs.declared.Table.{Table}
 use Rattle.crews.specs.Named.{first_list}
-use Rattle.absences.specs.Tried.{Way, skipping}
+use Rattle.absences.specs.Tried.{Way, Skipping}
 use Rattle.absences.specs.Asked.{Admits, need_policy, PolicyReply}
 use Rattle.accounts.specs.Persons.{number, merged}
 use Rattle.book.specs.Layout.{Contents, LayoutOf}
@@ -30,11 +30,11 @@ pub record PolicyOf (book : List ℕ) (i : ℕ) (v : Contents) (p : Policy) : Ty
 
 -- the units that deciding it takes
 abbrev pub need_of : Contents → Policy → ℕ
-need_of v p = need_policy skipping (table_for v) p.task p.away p.crews p.size p.edition
+need_of v p = need_policy Skipping (table_for v) p.task p.away p.crews p.size p.edition
 
 -- what may be replied to it, by the search that skips and with the whole allowance
 abbrev pub MayReply : Contents → Policy → Reply → Type 0
-MayReply v p = PolicyReply skipping (table_for v) p.task p.away p.crews p.size p.edition allowance
+MayReply v p = PolicyReply Skipping (table_for v) p.task p.away p.crews p.size p.edition allowance
 
 -- "the first list with nobody absent": the d crews that are printed with a yes
 abbrev pub first_crews : Contents → Policy → List ℕ

@@ -12,7 +12,7 @@ use Rattle.roster.specs.declared.Reply.{Reply}
 use Rattle.roster.specs.Meaning.{least_members, outweighsb, ahead, rank}
 use Rattle.roster.specs.Refusals.{policy_ruling, named_ruling}
 use Rattle.crews.specs.Filling.{place_of, close_of, closes_of, placed_of, pool_of, candidates, try_each, search}
-use Rattle.absences.specs.Tried.{row_from, Way, full, skipping, joins, listed, sizes_from, weighed}
+use Rattle.absences.specs.Tried.{row_from, Way, Full, Skipping, joins, listed, sizes_from, weighed}
 use Rattle.absences.specs.Replied.{policy_reply_of}
 use Rattle.absences.specs.Examples.{set_of_rows, yes_with, no_with, crews-with, none-with, undecided_with, refused_with_lem, ample}
 use Rattle.accounts.specs.declared.Accounts.{Accounts}
@@ -68,28 +68,28 @@ many = accounts_with (1 ∷ 2 ∷ []) (7 ∷ 7 ∷ []) 65
 abbrev pub by_policy : List Example
 by_policy =
     -- one person holds what his two accounts hold; two persons are no crew of one
-    record { question = policy skipping one 0 1 1 1 ample; reply = yes_with ((0 ∷ []) ∷ []) 2 }
-    ∷ record { question = policy skipping two 0 1 1 1 ample; reply = no_with [] 2 }
+    record { question = policy Skipping one 0 1 1 1 ample; reply = yes_with ((0 ∷ []) ∷ []) 2 }
+    ∷ record { question = policy Skipping two 0 1 1 1 ample; reply = no_with [] 2 }
     -- whoever is away is away with all accounts, and crews are persons: the numbers in them are those of persons, not of rows
-    ∷ record { question = policy skipping mixed 1 2 2 1 ample; reply = yes_with ((0 ∷ []) ∷ (1 ∷ []) ∷ []) 6 }
-    ∷ record { question = policy skipping five 1 2 2 1 ample; reply = yes_with ((0 ∷ 1 ∷ []) ∷ (2 ∷ 3 ∷ []) ∷ []) 10 }
-    ∷ record { question = policy skipping pair 1 1 1 1 ample; reply = yes_with ((0 ∷ []) ∷ []) 4 }
-    ∷ record { question = policy skipping three 1 1 1 1 ample; reply = no_with (2 ∷ []) 5 }
-    ∷ record { question = policy skipping pair 2 1 1 1 ample; reply = no_with (0 ∷ 1 ∷ []) 5 }
+    ∷ record { question = policy Skipping mixed 1 2 2 1 ample; reply = yes_with ((0 ∷ []) ∷ (1 ∷ []) ∷ []) 6 }
+    ∷ record { question = policy Skipping five 1 2 2 1 ample; reply = yes_with ((0 ∷ 1 ∷ []) ∷ (2 ∷ 3 ∷ []) ∷ []) 10 }
+    ∷ record { question = policy Skipping pair 1 1 1 1 ample; reply = yes_with ((0 ∷ []) ∷ []) 4 }
+    ∷ record { question = policy Skipping three 1 1 1 1 ample; reply = no_with (2 ∷ []) 5 }
+    ∷ record { question = policy Skipping pair 2 1 1 1 ample; reply = no_with (0 ∷ 1 ∷ []) 5 }
     -- just the need, and one unit less
-    ∷ record { question = policy skipping pair 2 1 1 1 5; reply = no_with (0 ∷ 1 ∷ []) 5 }
-    ∷ record { question = policy skipping pair 2 1 1 1 4; reply = undecided_with 4 }
+    ∷ record { question = policy Skipping pair 2 1 1 1 5; reply = no_with (0 ∷ 1 ∷ []) 5 }
+    ∷ record { question = policy Skipping pair 2 1 1 1 4; reply = undecided_with 4 }
     -- one who holds nothing is a person, and the first
-    ∷ record { question = policy skipping idle 64 1 2 1 ample; reply = no_with (1 ∷ 2 ∷ []) 5 }
+    ∷ record { question = policy Skipping idle 64 1 2 1 ample; reply = no_with (1 ∷ 2 ∷ []) 5 }
     -- two accounts of one person are one member: under edition 2 a companion is somebody else
-    ∷ record { question = policy skipping one 0 1 2 2 ample; reply = no_with [] 2 }
-    ∷ record { question = policy skipping two 0 1 2 2 ample; reply = yes_with ((0 ∷ 1 ∷ []) ∷ []) 3 }
-    ∷ record { question = policy skipping pair 0 1 2 2 ample; reply = yes_with ((0 ∷ 1 ∷ []) ∷ []) 3 }
-    ∷ record { question = policy skipping pair 0 1 1 2 ample; reply = no_with [] 3 }
-    ∷ record { question = policy skipping pair 0 1 1 3 ample; reply = refused_with_lem Edition }
+    ∷ record { question = policy Skipping one 0 1 2 2 ample; reply = no_with [] 2 }
+    ∷ record { question = policy Skipping two 0 1 2 2 ample; reply = yes_with ((0 ∷ 1 ∷ []) ∷ []) 3 }
+    ∷ record { question = policy Skipping pair 0 1 2 2 ample; reply = yes_with ((0 ∷ 1 ∷ []) ∷ []) 3 }
+    ∷ record { question = policy Skipping pair 0 1 1 2 ample; reply = no_with [] 3 }
+    ∷ record { question = policy Skipping pair 0 1 1 3 ample; reply = refused_with_lem Edition }
     -- rows are what is refused by 1, however few the persons are
-    ∷ record { question = policy skipping many 64 1 2 1 ample; reply = refused_with_lem Rows }
-    ∷ record { question = policy full many 64 1 2 1 0; reply = refused_with_lem Rows }
+    ∷ record { question = policy Skipping many 64 1 2 1 ample; reply = refused_with_lem Rows }
+    ∷ record { question = policy Full many 64 1 2 1 0; reply = refused_with_lem Rows }
     ∷ []
 
 abbrev pub by_name : List Example

@@ -16,7 +16,7 @@ use Rattle.roster.proofs.Laws.Swap.{first-tried, first_blocker_worth, none-worth
 use Rattle.roster.proofs.Laws.Rulings.{policy_within}
 use Rattle.crews.specs.Filling.{filling}
 use Rattle.crews.proofs.Laws.Exact.{Fair, blocks_none, finds_none}
-use Rattle.absences.specs.Tried.{Way, full, skipping, tried, Found}
+use Rattle.absences.specs.Tried.{Way, Full, Skipping, tried, Found}
 use Rattle.absences.specs.Asked.{Refuses, Admits, found}
 use Rattle.absences.specs.Replied.{judged, verdict_of}
 use Rattle.absences.proofs.Laws.Listed.{Picked, tried_sound, tried-complete, tried_ascending}
@@ -27,19 +27,19 @@ use Rattle.absences.proofs.Laws.Weighed.{clash, all_fit, Stops, stops}
 module _ (table : Table) (P s d t ed : ℕ) where
   -- a first blocker is worth trying, so every search tries it
   pub first_picked : (way : Way) (A : ℕ) → FirstBlocker table P s d t ed A → Picked way table P A
-  first_picked full A f = tt
-  first_picked skipping A f = first_blocker_worth table P s d t ed A f
+  first_picked Full A f = tt
+  first_picked Skipping A f = first_blocker_worth table P s d t ed A f
 
   -- the first of the blockers that a search tries is the first of all
   picked_first : (way : Way) (A : ℕ)
       → First table P (λ B. (ones B ≤ s) × Blocks table P d t ed B × Picked way table P B) A → FirstBlocker table P s d t ed A
-  picked_first full A f = record { rows = f.rows; is = (f.is.0, f.is.1); first = λ B h q. f.first B h (q.0, q.1, tt) }
-  picked_first skipping A f = (first-tried table P s d t ed A).1 f
+  picked_first Full A f = record { rows = f.rows; is = (f.is.0, f.is.1); first = λ B h q. f.first B h (q.0, q.1, tt) }
+  picked_first Skipping A f = (first-tried table P s d t ed A).1 f
 
   -- where nothing that a search tries blocks, nothing does
   picked_holds : (way : Way) → ((A : ℕ) → Absence table s A → Picked way table P A → Blocks table P d t ed A → ⊥) → Holds table P s d t ed
-  picked_holds full none = λ A a b. none A a tt b
-  picked_holds skipping none = none-worth-none table P s d t ed none
+  picked_holds Full none = λ A a b. none A a tt b
+  picked_holds Skipping none = none-worth-none table P s d t ed none
 
   pub first_not_holds : (A : ℕ) → FirstBlocker table P s d t ed A → Holds table P s d t ed → ⊥
   first_not_holds A f h = h A (record { rows = f.rows; few = f.is.0 }) f.is.1
@@ -103,8 +103,8 @@ admitted_fair table P s d t ed w e =
 -- an admitted policy holds, or has a first blocker: what the full search comes to tells
 holds-or-first : (table : Table) (P s d t ed : ℕ) → Fair table P d → Holds table P s d t ed ⊎ ((A : ℕ) × FirstBlocker table P s d t ed A)
 holds-or-first table P s d t ed fair =
-    ⊎_elim (λ b. inr ((found full table P s d t ed).blocker, one_blocks full table P s d t ed fair b)) (λ b. inl (none_blocks full table P s d t ed fair b))
-    (either (found full table P s d t ed).blocked)
+    ⊎_elim (λ b. inr ((found Full table P s d t ed).blocker, one_blocks Full table P s d t ed fair b)) (λ b. inl (none_blocks Full table P s d t ed fair b))
+    (either (found Full table P s d t ed).blocked)
 
 -- every question falls under one; P has 32 bits
 pub policy_case : (need : ℕ) (table : Table) (P s d t ed : ℕ) → P < 2 ^ 32 → (allowance : ℕ) → Case need table P s d t ed allowance

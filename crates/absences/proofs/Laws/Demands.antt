@@ -16,7 +16,7 @@ use Rattle.crews.specs.Filling.{filling}
 use Rattle.crews.specs.Named.{first_list}
 use Rattle.crews.proofs.Laws.Sound.{none-at}
 use Rattle.crews.proofs.Laws.Exact.{crews-eight, crews-past, Fair, finds_list, finds_none, holds_all}
-use Rattle.absences.specs.Tried.{Way, full, skipping, Found}
+use Rattle.absences.specs.Tried.{Way, Full, Skipping, Found}
 use Rattle.absences.specs.Asked.{Admits, found, need_policy, PolicyReplyBy, PolicyReply, Tells}
 use Rattle.absences.specs.Replied.{verdict_of, replied_by, policy_reply_of}
 use Rattle.absences.proofs.Laws.Listed.{tried-complete, tried_ascending}
@@ -254,25 +254,25 @@ module _ (table : Table) (P s d t ed : ℕ) (wide : P < 2 ^ 32) where
           (λ u. never (cc), omega (arith, ap Reply.units i, ap Reply.units (k.no e l A f)))
 
   -- "the search that skips and the search that skips nothing give the same verdict, crews and blocker whenever both decide"
-  pub demand_3_same : (a b : ℕ) (r q : Reply) → PolicyReply full table P s d t ed a r → PolicyReply skipping table P s d t ed b q
+  pub demand_3_same : (a b : ℕ) (r q : Reply) → PolicyReply Full table P s d t ed a r → PolicyReply Skipping table P s d t ed b q
       → r.verdict ≢ Undecided → q.verdict ≢ Undecided → (r.verdict ≡ q.verdict) × (r.crews ≡ q.crews) × (r.blocker ≡ q.blocker)
   demand_3_same =
       let crews : List ℕ = first_list table P d t ed 0 in
-      decided_alike (found full table P s d t ed) (found skipping table P s d t ed) crews crews (λ e. refl)
+      decided_alike (found Full table P s d t ed) (found Skipping table P s d t ed) crews crews (λ e. refl)
 
   -- "with no more work counted": the first blocker is worth trying, so what is skipped before it only costs the other search units
-  pub demand_3_need : Admits table P s d t ed → need_policy skipping table P s d t ed ≤ need_policy full table P s d t ed
+  pub demand_3_need : Admits table P s d t ed → need_policy Skipping table P s d t ed ≤ need_policy Full table P s d t ed
   demand_3_need e =
-      thinned_need (filling table P d t ed) table P (tried_thinned table P s) (tried_ascending full table P s) (λ B st.
-      let f = stops_first full table P s d t ed (admitted_fair table P s d t ed wide e) B st in
-      tried-complete skipping table P s B (record { rows = f.rows; few = f.is.0 }) (first_picked table P s d t ed skipping B f))
+      thinned_need (filling table P d t ed) table P (tried_thinned table P s) (tried_ascending Full table P s) (λ B st.
+      let f = stops_first Full table P s d t ed (admitted_fair table P s d t ed wide e) B st in
+      tried-complete Skipping table P s B (record { rows = f.rows; few = f.is.0 }) (first_picked table P s d t ed Skipping B f))
 
   -- "The skipping one decides whenever the other does", with no more units
-  pub demand_3_decides : (a : ℕ) (r q : Reply) → PolicyReply full table P s d t ed a r → PolicyReply skipping table P s d t ed a q
+  pub demand_3_decides : (a : ℕ) (r q : Reply) → PolicyReply Full table P s d t ed a r → PolicyReply Skipping table P s d t ed a q
       → r.verdict ≢ Undecided → (q.verdict ≢ Undecided) × (q.units ≤ r.units)
   demand_3_decides a r q =
       let crews : List ℕ = first_list table P d t ed 0 in
-      decided_sooner (found full table P s d t ed) (found skipping table P s d t ed) crews crews a r q demand_3_need
+      decided_sooner (found Full table P s d t ed) (found Skipping table P s d t ed) crews crews a r q demand_3_need
 
   -- "a larger allowance never alters a decided reply"
   pub demand_3_larger : (way : Way) (a b : ℕ) (r q : Reply) → a ≤ b → PolicyReply way table P s d t ed a r → PolicyReply way table P s d t ed b q

@@ -14,22 +14,22 @@ use Rattle.std.proofs.lemmas.Nat.{ones-le}
 use Rattle.sets.proofs.Sets.{ones_none, ones-empty}
 use Rattle.roster.specs.declared.Table.{Table}
 use Rattle.roster.specs.Meaning.{Absence, Worth}
-use Rattle.absences.specs.Tried.{Way, full, skipping, listed, sizes_from, tried}
+use Rattle.absences.specs.Tried.{Way, Full, Skipping, listed, sizes_from, tried}
 use Rattle.absences.specs.Inner.Opens.{Kept}
 use Rattle.absences.proofs.Laws.OneSize.{Ascending, ascending_append, size_sound, size_complete, size_ascending, nobody_kept}
 
 -- the absences that this search tries: all, or those worth trying
 abbrev pub Picked : Way → Table → ℕ → ℕ → Type 0
-Picked full table P A = Unit {0}
-Picked skipping table P A = Worth table P A
+Picked Full table P A = Unit {0}
+Picked Skipping table P A = Worth table P A
 
 kept_of : (way : Way) (table : Table) (P A : ℕ) → Picked way table P A → Kept way table P A
-kept_of full table P A p = λ u v l h m. absurd m
-kept_of skipping table P A p = p
+kept_of Full table P A p = λ u v l h m. absurd m
+kept_of Skipping table P A p = p
 
 of_kept : (way : Way) (table : Table) (P A : ℕ) → Kept way table P A → Picked way table P A
-of_kept full table P A k = tt
-of_kept skipping table P A k = k
+of_kept Full table P A k = tt
+of_kept Skipping table P A k = k
 
 -- ---- all sizes
 

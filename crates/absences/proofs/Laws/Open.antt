@@ -14,20 +14,20 @@ use Rattle.sets.proofs.Laws.Build.{set_of-bit}
 use Rattle.roster.specs.declared.Table.{Table}
 use Rattle.roster.specs.Meaning.{outweighsb, rank}
 use Rattle.roster.proofs.Laws.Rank.{rank_inj, outweighs_iff, outweighs_trans}
-use Rattle.absences.specs.Tried.{Way, full, skipping, row_at, joins, listed}
+use Rattle.absences.specs.Tried.{Way, Full, Skipping, row_at, joins, listed}
 use Rattle.absences.specs.Inner.Opens.{Must, Unbarred, Opens, outweighed_at}
 use Rattle.absences.proofs.Laws.Rows.{row_at_lt, rank_row_at, must_rank, joins_iff}
 use Rattle.absences.proofs.Laws.OneSize.{listed-joins, listed_not, none_more, none_left}
 
 must_trans : (way : Way) (table : Table) (P u v w : ℕ) → Must way table P u v → Must way table P v w → Must way table P u w
-must_trans full table P u v w m q = absurd m
-must_trans skipping table P u v w m q = outweighs_trans table P u v w m q
+must_trans Full table P u v w m q = absurd m
+must_trans Skipping table P u v w m q = outweighs_trans table P u v w m q
 
 -- the row of rank r closes the ranks whose rows it has to be absent with, and no others
 pub outweighed_iff : (way : Way) (table : Table) (P r i : ℕ) → i < table.rows
     → Has (outweighed_at way table P r) i ↔ Must way table P (row_at table P r) (row_at table P i)
-outweighed_iff full table P r i l = (λ h. omega (arith, bit-none i), λ m. absurd m)
-outweighed_iff skipping table P r i l =
+outweighed_iff Full table P r i l = (λ h. omega (arith, bit-none i), λ m. absurd m)
+outweighed_iff Skipping table P r i l =
     let here = set_of-bit table.rows (λ j. outweighsb table P (row_at table P r) (row_at table P j)) i l in (
       λ h. (outweighs_iff table P (row_at table P r) (row_at table P i)).1 (subst T (sym (true_of_to_n _ (sym here ∙ h))) tt),
       λ m. here ∙ to_n_yes _ ((outweighs_iff table P (row_at table P r) (row_at table P i)).0 m),

@@ -11,7 +11,7 @@ use Rattle.sets.proofs.Laws.Build.{set_of-bit, set_of_high}
 use Rattle.roster.specs.declared.Table.{Table}
 use Rattle.roster.specs.Meaning.{Outweighs, outweighsb, rank}
 use Rattle.roster.proofs.Laws.Rank.{outweighs_iff, outweighs_rank, rank_below, rank_inj, rank_onto}
-use Rattle.absences.specs.Tried.{row_from, row_at, outweighers, Way, full, skipping, joins}
+use Rattle.absences.specs.Tried.{row_from, row_at, outweighers, Way, Full, Skipping, joins}
 use Rattle.absences.specs.Inner.Opens.{Must}
 
 -- ---- the row of a rank
@@ -62,8 +62,8 @@ module _ (table : Table) (P : ℕ) where
 -- ---- what a row that joins needs
 
 pub must_rank : (way : Way) (table : Table) (P u v : ℕ) → u < table.rows → Must way table P u v → rank table P u < rank table P v
-must_rank full table P u v l m = absurd m
-must_rank skipping table P u v l m = outweighs_rank table P u v l m
+must_rank Full table P u v l m = absurd m
+must_rank Skipping table P u v l m = outweighs_rank table P u v l m
 
 -- a set that has u by a test has it exactly if u outweighs v, if the test is that of outweighing
 by_test : (table : Table) (P u v m : ℕ) (test : Bool) → bit m u ≡ to_n test → test ≡ outweighsb table P u v → Has m u ↔ Outweighs table P u v
@@ -80,8 +80,8 @@ outweighers_iff table P u v l = by_test table P u v _ _ (set_of-bit table.rows _
 pub joins_iff : (way : Way) (table : Table) (P F v : ℕ)
     → (joins way table P F v ≡ true) ↔ ((u : ℕ) → u < table.rows → Must way table P u v → Has F u)
 unfolding joins
-joins_iff full table P F v = (λ e u l m. absurd m, λ f. refl)
-joins_iff skipping table P F v = (
+joins_iff Full table P F v = (λ e u l m. absurd m, λ f. refl)
+joins_iff Skipping table P F v = (
   λ e u l m.
       let tested : eqb (bit_and above F) above ≡ true = cc in
       omega (arith, sub_of_test above F (eqb-true (bit_and above F) above tested) u, (outweighers_iff table P u v l).1 m, bit_le F u),

@@ -19,7 +19,7 @@ use Rattle.roster.specs.Refusals.{policy_ruling}
 use Rattle.roster.proofs.Laws.Same.{Agree, same_rank}
 use Rattle.crews.specs.Filling.{Outcome, filling}
 use Rattle.crews.proofs.Laws.Same.{same_filling}
-use Rattle.absences.specs.Tried.{row_from, row_at, Way, full, skipping, joins, listed, sizes_from, sizes_to, tried, Found, weighed}
+use Rattle.absences.specs.Tried.{row_from, row_at, Way, Full, Skipping, joins, listed, sizes_from, sizes_to, tried, Found, weighed}
 use Rattle.absences.specs.Asked.{found, PolicyReply}
 use Rattle.absences.specs.Replied.{replied_by, policy_reply_of}
 use Rattle.absences.proofs.Laws.Rows.{row_here, row_next, row_at_lt}
@@ -50,8 +50,8 @@ module _ (table other : Table) (P : ℕ) (same : Agree table other P) where
 
   same_joins : (way : Way) (F v : ℕ) → v < table.rows → joins way table P F v ≡ joins way other P F v
   unfolding joins
-  same_joins full F v l = refl
-  same_joins skipping F v l =
+  same_joins Full F v l = refl
+  same_joins Skipping F v l =
       ap (λ (m : ℕ). eqb (bit_and m F) m)
       (set_of_ext table.rows (λ u. outweighsb table P u v) (λ u. outweighsb other P u v) (λ u lu. same_outweighsb u v lu l)
       ∙ ap (λ (n : ℕ). set_of n (λ u. outweighsb other P u v)) same.count)

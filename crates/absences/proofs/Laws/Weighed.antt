@@ -13,7 +13,7 @@ use Rattle.roster.specs.declared.Table.{Table}
 use Rattle.roster.specs.Meaning.{Earlier}
 use Rattle.roster.proofs.Laws.Order.{earlier_irrefl}
 use Rattle.crews.specs.Filling.{Outcome}
-use Rattle.absences.specs.Tried.{row_at, full, skipping, joins, listed, sizes_from, tried, Found, units_of, weighed}
+use Rattle.absences.specs.Tried.{row_at, Full, Skipping, joins, listed, sizes_from, tried, Found, units_of, weighed}
 use Rattle.absences.proofs.Laws.OneSize.{Ascending, listed-joins, listed_not}
 
 -- a test has one outcome
@@ -174,31 +174,31 @@ thinned_append (leave A s) q = leave A (thinned_append s q)
 
 -- the search that skips tries, in the same order, some of what the full search tries
 module _ (table : Table) (P : ℕ) where
-  listed_thinned : (m k r F : ℕ) → Thinned (listed skipping table P m k r F) (listed full table P m k r F)
+  listed_thinned : (m k r F : ℕ) → Thinned (listed Skipping table P m k r F) (listed Full table P m k r F)
   unfolding listed joins
   listed_thinned zero zero r F = thinned_all (F ∷ [])
   listed_thinned zero (suc k) r F = none
   listed_thinned (suc m) zero r F = thinned_all (F ∷ [])
   listed_thinned (suc m) (suc k) r F =
-      go (either (joins skipping table P F (row_at table P r)))
+      go (either (joins Skipping table P F (row_at table P r)))
       (listed_thinned m k (suc r) (with F (row_at table P r))) (listed_thinned m (suc k) (suc r) F)
     where
-      go : (joins skipping table P F (row_at table P r) ≡ true) ⊎ (joins skipping table P F (row_at table P r) ≡ false)
-          → Thinned (listed skipping table P m k (suc r) (with F (row_at table P r))) (listed full table P m k (suc r) (with F (row_at table P r)))
-          → Thinned (listed skipping table P m (suc k) (suc r) F) (listed full table P m (suc k) (suc r) F)
-          → Thinned (listed skipping table P (suc m) (suc k) r F) (listed full table P (suc m) (suc k) r F)
+      go : (joins Skipping table P F (row_at table P r) ≡ true) ⊎ (joins Skipping table P F (row_at table P r) ≡ false)
+          → Thinned (listed Skipping table P m k (suc r) (with F (row_at table P r))) (listed Full table P m k (suc r) (with F (row_at table P r)))
+          → Thinned (listed Skipping table P m (suc k) (suc r) F) (listed Full table P m (suc k) (suc r) F)
+          → Thinned (listed Skipping table P (suc m) (suc k) r F) (listed Full table P (suc m) (suc k) r F)
       go (inl j) take skip =
-          subst (λ l. Thinned l (listed full table P (suc m) (suc k) r F)) (sym (listed-joins skipping table P m k r F j)) (thinned_append take skip)
+          subst (λ l. Thinned l (listed Full table P (suc m) (suc k) r F)) (sym (listed-joins Skipping table P m k r F j)) (thinned_append take skip)
       go (inr j) take skip =
-          subst (λ l. Thinned l (listed full table P (suc m) (suc k) r F)) (sym (listed_not skipping table P m k r F j))
-          (thinned_append (thinned_none (listed full table P m k (suc r) (with F (row_at table P r)))) skip)
+          subst (λ l. Thinned l (listed Full table P (suc m) (suc k) r F)) (sym (listed_not Skipping table P m k r F j))
+          (thinned_append (thinned_none (listed Full table P m k (suc r) (with F (row_at table P r)))) skip)
 
-  sizes_thinned : (m k : ℕ) → Thinned (sizes_from skipping table P m k) (sizes_from full table P m k)
+  sizes_thinned : (m k : ℕ) → Thinned (sizes_from Skipping table P m k) (sizes_from Full table P m k)
   unfolding sizes_from
   sizes_thinned zero k = none
   sizes_thinned (suc m) k = thinned_append (listed_thinned table.rows _ 0 0) (sizes_thinned m _)
 
-  pub tried_thinned : (s : ℕ) → Thinned (tried skipping table P s) (tried full table P s)
+  pub tried_thinned : (s : ℕ) → Thinned (tried Skipping table P s) (tried Full table P s)
   tried_thinned s = keep 0 (sizes_thinned _ _)
 
 module _ (fill : ℕ → Outcome) (table : Table) (P : ℕ) where

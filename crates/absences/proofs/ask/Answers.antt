@@ -17,11 +17,15 @@ use Rattle.crews.specs.Filling.{holds_of}
 use Rattle.absences.specs.declared.Search.{Search}
 use Rattle.absences.specs.Tried.{Way, row_at}
 use Rattle.absences.proofs.Laws.Rows.{row_at_lt}
-use Rattle.absences.specs.Inner.Walk.{way_of, rank_by, weight_by, Counted, Lent, Ranked, searched_by}
+use Rattle.absences.specs.Inner.Walk.{rank_by, weight_by, Counted, Lent, Ranked, searched_by}
 use Rattle.absences.proofs.Rank.{counted_of, order_at, weight_at}
+use Rattle.absences.specs.Asked.{PolicyReplyFor}
+use Rattle.absences.specs.Replied.{policy_reply_of}
+use Rattle.roster.specs.declared.Reply.{Reply}
+use Rattle.absences.proofs.Laws.Demands.{policy_allowed}
 use Rattle.absences.proofs.Replied.{ruled}
 use Rattle.absences.proofs.ask.Goals as goal
-use Rattle.absences.proofs.ask.Goals.{After-counted-counts}
+use Rattle.absences.proofs.ask.Goals.{Start, After-counted-counts}
 
 -- ---- an admitted question: what is worked out of the table, where each row's permissions are counted
 
@@ -35,11 +39,8 @@ module _ (k : After-counted-counts) where
   abbrev holds : List ℕ
   holds = k.holdings_within-holds.result
 
-  abbrev way : Way
-  way = way_of k.args.skipping
-
   admitted : policy_ruling k.args.table.rows k.args.policy.task k.args.policy.away k.args.policy.crews k.args.policy.size k.args.policy.edition ≡ Ok tt
-  admitted = sym k.policy_ruling.ensures ∙ k.in-Ok.is
+  admitted = sym k.policy_ruling.ensures ∙ k.in_default.is
 
   -- its numbers are within the limits
   limits : rulings.Within k.args.table.rows k.args.policy.task k.args.policy.away k.args.policy.crews k.args.policy.size k.args.policy.edition
@@ -56,17 +57,21 @@ module _ (k : After-counted-counts) where
 
   -- ---- what the search is lent is of the table
 
-  abbrev searching : ℕ → Search
-  searching everyone = record {
+  abbrev searching : ℕ → List ℕ → List ℕ → Search
+  searching everyone order outweighed = record {
     task = task;
     crews = k.args.policy.crews;
     size = k.args.policy.size;
     edition = k.args.policy.edition;
-    everyone = everyone;
     allowance = k.args.allowance;
+    everyone = everyone;
+    holds = holds;
+    holders = k.holders_of-holders.result;
+    order = order;
+    outweighed = outweighed;
   }
 
-  lends : {everyone : ℕ} → everyone ≡ 2 ^ min table.rows 64 - 1 → Lent table (searching everyone) holds k.holders_of-holders.result
+  lends : {everyone : ℕ} {order outweighed : List ℕ} → everyone ≡ 2 ^ min table.rows 64 - 1 → Lent table (searching everyone order outweighed)
   lends below = record {
     small = small;
     everyone = below ∙ below_within 64 _ small;
@@ -82,11 +87,11 @@ module _ (k : After-counted-counts) where
     ordered : (r : ℕ) → r < table.rows → get_or order r 0 ≡ row_at table task r
     ordered = order_at table task table.rows k.counted-counts.result counted order is
 
-    ranks : {outweighed : List ℕ} → ((r : ℕ) → r < table.rows → at outweighed r ≡ weight_by k.args.skipping holds order table.rows r)
-        → Ranked way table task order outweighed
+    ranks : {everyone : ℕ} {outweighed : List ℕ} → ((r : ℕ) → r < table.rows → at outweighed r ≡ weight_by k.args.way holds order table.rows r)
+        → Ranked k.args.way table (searching everyone order outweighed)
     ranks weighed = record {
       row = ordered;
-      closes = λ r l. weighed r l ∙ weight_at table task small holds order held ordered k.args.skipping r l;
+      closes = λ r l. weighed r l ∙ weight_at table task small holds order held ordered k.args.way r l;
     }
 
 pub ranked-order-requires : goal.ranked-order-requires
@@ -97,25 +102,34 @@ weights-outweighed-requires c =
     let k = (goal.at.weights-outweighed-requires c).After-counted-counts in
     (small k, λ i l. omega (arith, ordered k c.ranked-order.result c.ranked-order.ensures i l, row_at_lt (table k) (task k) i l, small k))
 
-pub search_all-requires : goal.search_all-requires
-search_all-requires c =
-    let k = (goal.at.search_all-requires c).After-counted-counts in
+pub reply-requires : goal.reply-requires
+reply-requires c =
+    let k = (goal.at.reply-requires c).After-counted-counts in
     let within = limits k in
-    ((way k, table k, lends k c.below.ensures, ranks k c.ranked-order.result c.ranked-order.ensures c.weights-outweighed.ensures), omega (arith, c.smaller.ensures, within.rows, within.away))
+    ((k.args.way, table k, lends k c.below.ensures, ranks k c.ranked-order.result c.ranked-order.ensures c.weights-outweighed.ensures), omega (arith, within.rows))
 
 -- ---- the two replies
+
+-- the definition's reply is one that is allowed
+allowed : (k : Start) (r : Reply) → let a = k.args in let p = a.policy in
+    r ≡ policy_reply_of a.way a.table p.task p.away p.crews p.size p.edition a.allowance → PolicyReplyFor a.way a.table p a.allowance r
+allowed k r e = let a = k.args in
+    let p = a.policy in
+    rw e (policy_allowed a.way a.table p.task p.away p.crews p.size p.edition (search rules) a.allowance)
 
 pub returns-in-Err : goal.returns-in-Err
 returns-in-Err c =
     let a = c.args in
-    c.refused.ensures
-    ∙ sym (ruled (way_of a.skipping) a.table a.policy.task a.policy.away a.policy.crews a.policy.size a.policy.edition a.allowance _
-    (sym c.policy_ruling.ensures ∙ c.in-Err.is))
+    allowed (goal.at.returns-in-Err c).Start _
+    (c.refused.ensures
+    ∙ sym (ruled a.way a.table a.policy.task a.policy.away a.policy.crews a.policy.size a.policy.edition a.allowance _
+    (sym c.policy_ruling.ensures ∙ c.in-Err.is)))
 
-pub returns-in-Ok : goal.returns-in-Ok
-returns-in-Ok c =
-    let k = (goal.at.returns-in-Ok c).After-counted-counts in
+pub returns : goal.returns
+returns c =
+    let k = (goal.at.returns c).After-counted-counts in
     let a = c.args in
-    c.search_all.ensures (way k) a.table (lends k c.below.ensures) (ranks k c.ranked-order.result c.ranked-order.ensures c.weights-outweighed.ensures)
-    ∙ ap (λ (n : ℕ). searched_by (way k) a.table (searching k c.below.result) n) c.smaller.ensures
-    ∙ sym (ruled (way k) a.table a.policy.task a.policy.away a.policy.crews a.policy.size a.policy.edition a.allowance _ (admitted k))
+    allowed (goal.at.returns c).Start _
+    (c.reply.ensures a.way a.table (lends k c.below.ensures) (ranks k c.ranked-order.result c.ranked-order.ensures c.weights-outweighed.ensures)
+    ∙ ap (λ (n : ℕ). searched_by a.way a.table (searching k c.below.result c.ranked-order.result c.weights-outweighed.result) n) c.min.ensures
+    ∙ sym (ruled a.way a.table a.policy.task a.policy.away a.policy.crews a.policy.size a.policy.edition a.allowance _ (admitted k)))

@@ -5,12 +5,12 @@ use Rattle.sets.specs.Members.{set_of}
 use Rattle.sets.specs.Sets.{Has}
 use Rattle.roster.specs.declared.Table.{Table}
 use Rattle.roster.specs.Meaning.{Outweighs, outweighsb, rank}
-use Rattle.absences.specs.Tried.{Way, full, skipping, row_at}
+use Rattle.absences.specs.Tried.{Way, Full, Skipping, row_at}
 
 -- u has to be absent where v is: never, or if it outweighs v
 abbrev pub Must : Way → Table → ℕ → ℕ → ℕ → Type 0
-Must full table P u v = ⊥
-Must skipping table P u v = Outweighs table P u v
+Must Full table P u v = ⊥
+Must Skipping table P u v = Outweighs table P u v
 
 -- A is an absence that this search tries: whoever has to be absent with one of its rows is
 abbrev pub Kept : Way → Table → ℕ → ℕ → Type 0
@@ -30,5 +30,5 @@ pub record Opens (way : Way) (table : Table) (P r F ranks : ℕ) : Type 0 where
 
 -- the ranks that are closed where the row of rank r is passed over: none, or those whose rows it outweighs
 abbrev pub outweighed_at : Way → Table → ℕ → ℕ → ℕ
-outweighed_at full table P r = 0
-outweighed_at skipping table P r = set_of table.rows (λ i. outweighsb table P (row_at table P r) (row_at table P i))
+outweighed_at Full table P r = 0
+outweighed_at Skipping table P r = set_of table.rows (λ i. outweighsb table P (row_at table P r) (row_at table P i))

@@ -7,7 +7,7 @@ use Rattle.roster.specs.Limits.{row_limit}
 use Rattle.roster.specs.Refusals.{policy_ruling}
 use Rattle.roster.specs.declared.Policy.{Policy}
 use Rattle.roster.specs.declared.Reply.{Reply}
-use Rattle.absences.specs.Tried.{skipping}
+use Rattle.absences.specs.Tried.{Skipping}
 use Rattle.accounts.specs.Persons.{persons}
 use Rattle.accounts.proofs.Laws.Merged.{persons_few}
 use Rattle.absences.specs.Asked.{Admits, Tells}
@@ -42,10 +42,10 @@ module _ (book : List ℕ) (i : ℕ) (v : Contents) (p : Policy) (o : PolicyOf b
   pub policy_reply : MayReply v p (reply_to book p)
   policy_reply =
       rw (reply_laid v book o.layout p)
-      (policy_allowed skipping (table_for v) p.task p.away p.crews p.size p.edition task_wide allowance)
+      (policy_allowed Skipping (table_for v) p.task p.away p.crews p.size p.edition task_wide allowance)
 
-  pub policy_tells : Tells skipping (table_for v) p.task p.away p.crews p.size p.edition allowance (reply_to book p)
-  policy_tells = policy_exactly skipping (table_for v) p.task p.away p.crews p.size p.edition task_wide allowance (reply_to book p) policy_reply
+  pub policy_tells : Tells Skipping (table_for v) p.task p.away p.crews p.size p.edition allowance (reply_to book p)
+  policy_tells = policy_exactly Skipping (table_for v) p.task p.away p.crews p.size p.edition task_wide allowance (reply_to book p) policy_reply
 
 -- what line i of a sheet is
 pub record PolicyLine (book : List ℕ) (i : ℕ) (v : Contents) (p : Policy) : Type 0 where

@@ -12,7 +12,7 @@ use Rattle.sets.specs.Laws.Arrays.{length-tabulate, tabulated}
 use Rattle.roster.specs.Limits.{row_limit}
 use Rattle.roster.specs.declared.Policy.{Policy}
 use Rattle.roster.specs.declared.Reply.{Reply}
-use Rattle.absences.specs.Tried.{skipping}
+use Rattle.absences.specs.Tried.{Skipping}
 use Rattle.absences.specs.Replied.{policy_reply_of}
 use Rattle.absences.proofs.Laws.Demands.{policy_allowed}
 use Rattle.accounts.specs.Persons.{number}
@@ -43,7 +43,7 @@ staff_by v = tabulate row_limit (λ u. (row_or0 (row_by (get_elem? v.rows u))).s
 
 -- the reply to a policy over the table of the rows, under the first edition
 abbrev pub reply_before : Contents → Policy → Reply
-reply_before v p = policy_reply_of skipping (row_by_row (accounts_for v)) p.task p.away p.crews p.size 1 allowance
+reply_before v p = policy_reply_of Skipping (row_by_row (accounts_for v)) p.task p.away p.crews p.size 1 allowance
 
 pub old_numbers : (v : Contents) (book : List ℕ) → LayoutOf v book → v.form ≡ Old → numbers_in book ≡ staff_by v
 old_numbers v book l old =
@@ -76,10 +76,10 @@ module _ (book : List ℕ) (i : ℕ) (v : Contents) (p : Policy) (o : PolicyOf b
   old_reply =
       let a = accounts_for v in
       let wide = task_wide book i v p o in
-      let over : ℕ → Reply = λ ed. policy_reply_of skipping (row_by_row a) p.task p.away p.crews p.size ed allowance in
-      policy_as_before a (old_different v o.layout.admitted old) skipping p.task p.away p.crews p.size p.edition allowance wide (reply_to book p) (over p.edition)
-      (rw (layout_parts v book o.layout).accounts (policy_answered skipping a p.task p.away p.crews p.size p.edition allowance wide))
-      (policy_allowed skipping (row_by_row a) p.task p.away p.crews p.size p.edition wide allowance)
+      let over : ℕ → Reply = λ ed. policy_reply_of Skipping (row_by_row a) p.task p.away p.crews p.size ed allowance in
+      policy_as_before a (old_different v o.layout.admitted old) Skipping p.task p.away p.crews p.size p.edition allowance wide (reply_to book p) (over p.edition)
+      (rw (layout_parts v book o.layout).accounts (policy_answered Skipping a p.task p.away p.crews p.size p.edition allowance wide))
+      (policy_allowed Skipping (row_by_row a) p.task p.away p.crews p.size p.edition wide allowance)
       ∙ ap over (older_edition v o.layout.admitted (λ e. never (sym old ∙ e)) i p o.policy)
 
   -- line i of its sheet

@@ -12,7 +12,7 @@ use Rattle.roster.specs.declared.Reply.{Reply}
 use Rattle.roster.specs.declared.Verdict.{Verdict}
 use Rattle.roster.specs.declared.Verdict.TheVariants.{Yes, No, Undecided}
 use Rattle.crews.proofs.Laws.Exact.{Fair}
-use Rattle.absences.specs.Tried.{skipping}
+use Rattle.absences.specs.Tried.{Skipping}
 use Rattle.absences.specs.Asked.{Admits, Tells}
 use Rattle.absences.proofs.Laws.Decided.{admitted_fair}
 use Rattle.absences.proofs.Laws.Demands.{policy_yes, policy_no}
@@ -81,7 +81,7 @@ module _ (book : List ℕ) (i : ℕ) (v : Contents) (p : Policy) (o : PolicyOf b
   abbrev admits : Admits (table_for v) p.task p.away p.crews p.size p.edition
   admits = policy_admitted book i v p o
 
-  abbrev tells : Tells skipping (table_for v) p.task p.away p.crews p.size p.edition allowance (reply_to book p)
+  abbrev tells : Tells Skipping (table_for v) p.task p.away p.crews p.size p.edition allowance (reply_to book p)
   tells = policy_tells book i v p o
 
   abbrev fair : Fair (table_for v) p.task p.crews
@@ -89,7 +89,7 @@ module _ (book : List ℕ) (i : ℕ) (v : Contents) (p : Policy) (o : PolicyOf b
 
   abbrev shown : Shown (table_for v).rows (reply_to book p)
   shown =
-      allowed_shown skipping (table_for v) p.task p.away p.crews p.size p.edition (task_wide book i v p o) allowance
+      allowed_shown Skipping (table_for v) p.task p.away p.crews p.size p.edition (task_wide book i v p o) allowance
       (policy_admitted book i v p o) (reply_to book p) (policy_reply book i v p o) (table_for v).rows (omega arith)
 
   -- ---- the word
@@ -134,7 +134,7 @@ module _ (book : List ℕ) (i : ℕ) (v : Contents) (p : Policy) (o : PolicyOf b
   unfolding verdict_word
   yes_exactly =
       let said = word_printed Yes says_yes in
-      let exactly = policy_yes skipping (table_for v) p.task p.away p.crews p.size p.edition (task_wide book i v p o) allowance given (policy_reply book i v p o) in
+      let exactly = policy_yes Skipping (table_for v) p.task p.away p.crews p.size p.edition (task_wide book i v p o) allowance given (policy_reply book i v p o) in
       (λ x. let h = exactly.0 (said.0 x) in (h.1, h.2), λ h. said.1 (exactly.1 (admits, h.0, h.1)))
 
   -- and no exactly if one of them leaves none
@@ -143,7 +143,7 @@ module _ (book : List ℕ) (i : ℕ) (v : Contents) (p : Policy) (o : PolicyOf b
   unfolding verdict_word
   no_exactly =
       let said = word_printed No says_no in
-      let exactly = policy_no skipping (table_for v) p.task p.away p.crews p.size p.edition (task_wide book i v p o) allowance given (policy_reply book i v p o) in
+      let exactly = policy_no Skipping (table_for v) p.task p.away p.crews p.size p.edition (task_wide book i v p o) allowance given (policy_reply book i v p o) in
       (λ x. let h = exactly.0 (said.0 x) in (h.1, h.2), λ h. said.1 (exactly.1 (admits, h.0, h.1)))
 
   -- ---- what stands behind the word

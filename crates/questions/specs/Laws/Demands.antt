@@ -14,7 +14,7 @@ use Rattle.roster.specs.Replies.{no_crews, reply_with}
 use Rattle.roster.proofs.Laws.Rulings.{or_else, named-after_policy, policy_nobody, policy_rows, named-rows, policy_few, past-rows_iff}
 use Rattle.crews.specs.Named.{need_named, NamedReply}
 use Rattle.crews.proofs.Laws.Named as named
-use Rattle.absences.specs.Tried.{Way, full, skipping}
+use Rattle.absences.specs.Tried.{Way, Full, Skipping}
 use Rattle.absences.specs.Asked.{need_policy}
 use Rattle.absences.specs.Asked as tables
 use Rattle.absences.proofs.Laws.Demands as policy
@@ -133,7 +133,7 @@ module _ (way : Way) (a : Accounts) (P s d t ed allowance : ℕ) (wide : P < 2 ^
 
 module _ (a : Accounts) (P s d t ed : ℕ) (wide : P < 2 ^ 32) where
   -- both searches give the same verdict, crews and blocker whenever both decide
-  pub searches_alike : (x y : ℕ) (r q : Reply) → PolicyAsked full a P s d t ed x r → PolicyAsked skipping a P s d t ed y q
+  pub searches_alike : (x y : ℕ) (r q : Reply) → PolicyAsked Full a P s d t ed x r → PolicyAsked Skipping a P s d t ed y q
       → r.verdict ≢ Undecided → q.verdict ≢ Undecided → (r.verdict ≡ q.verdict) × (r.crews ≡ q.crews) × (r.blocker ≡ q.blocker)
   searches_alike x y r q k m dr dq =
       ⊎_elim
@@ -142,7 +142,7 @@ module _ (a : Accounts) (P s d t ed : ℕ) (wide : P < 2 ^ 32) where
       (behind_both _ _ _ r q k m)
 
   -- the skipping one decides whenever the other does, with no more units
-  pub skipping_decides : (x : ℕ) (r q : Reply) → PolicyAsked full a P s d t ed x r → PolicyAsked skipping a P s d t ed x q
+  pub skipping_decides : (x : ℕ) (r q : Reply) → PolicyAsked Full a P s d t ed x r → PolicyAsked Skipping a P s d t ed x q
       → r.verdict ≢ Undecided → (q.verdict ≢ Undecided) × (q.units ≤ r.units)
   skipping_decides x r q k m dr =
       ⊎_elim
