@@ -1,6 +1,6 @@
 -- The reply is that of the whole list of absences: nobody absent first, then the sizes from 1 on. Assumes nothing.
 use Rattle.std.specs.Prelude.{Ok, Err, Result}
-use mathlib.Core.Path.{◌≡◌, refl, sym, ap, ap₂, ◌∙◌}
+use mathlib.Core.Path.{◌≡◌, sym, ap, ◌∙◌}
 use mathlib.Core.Logic.{◌⊎◌, inl, inr, ◌≢◌}
 use mathlib.Core.Bool.{true, false}
 use mathlib.Core.List.{List, [], ◌∷◌}
@@ -22,7 +22,8 @@ use Rattle.crews.proofs.Laws.Steps as steps
 use Rattle.absences.specs.declared.Search.{Search}
 use Rattle.absences.specs.declared.Stop.{Stop}
 use Rattle.absences.specs.declared.Stop.TheVariants.{Blocked, Undecided}
-use Rattle.absences.specs.Tried.{Way, sizes_to, Found, per_absence, weighed}
+use Rattle.absences.specs.declared.Way.{Way}
+use Rattle.absences.specs.Tried.{sizes_to, Found, per_absence, weighed}
 use Rattle.absences.specs.Asked.{found}
 use Rattle.absences.specs.Replied.{replied_by, policy_reply_of}
 use Rattle.absences.specs.Inner.Walk.{walked_from, walked_of, walked_by, reply_from, searched_by}

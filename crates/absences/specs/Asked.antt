@@ -10,7 +10,8 @@ use Rattle.roster.specs.Refusals.{policy_ruling}
 use Rattle.roster.specs.Replies.{no_crews, Eight, reply_with}
 use Rattle.crews.specs.Filling.{filling, filling_before}
 use Rattle.crews.specs.Named.{first_list}
-use Rattle.absences.specs.Tried.{Way, tried, Found, weighed}
+use Rattle.absences.specs.declared.Way.{Way}
+use Rattle.absences.specs.Tried.{tried, Found, weighed}
 
 -- "Refused, first that applies"; what nothing applies to is admitted
 abbrev pub Refuses : Table → ℕ → ℕ → ℕ → ℕ → ℕ → Refusal → Type 0

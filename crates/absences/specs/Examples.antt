@@ -8,7 +8,8 @@ use Rattle.roster.specs.declared.Reply.{Reply}
 use Rattle.roster.specs.Limits.{row_limit, crew_limit}
 use Rattle.roster.specs.Replies.{no_crews}
 use Rattle.crews.specs.Named.{NamedReply, named_reply_of}
-use Rattle.absences.specs.Tried.{Way, Full, Skipping}
+use Rattle.absences.specs.declared.Way.{Way}
+use Rattle.absences.specs.declared.Way.TheVariants.{Full, Skipping}
 use Rattle.absences.specs.Asked.{PolicyReply}
 use Rattle.absences.specs.Replied.{policy_reply_of}
 

@@ -11,7 +11,9 @@ use Rattle.roster.specs.declared.Refusal.{Refusal}
 use Rattle.roster.specs.declared.Refusal.TheVariants.{Rows, Task, Away, Crews, Size, Absence, Edition}
 use Rattle.roster.specs.Meaning.{least_members, outweighsb, ahead, rank}
 use Rattle.crews.specs.Filling.{place_of, close_of, closes_of, placed_of, pool_of, candidates, try_each, search}
-use Rattle.absences.specs.Tried.{row_from, Way, Full, Skipping, joins, listed, sizes_from, weighed}
+use Rattle.absences.specs.declared.Way.{Way}
+use Rattle.absences.specs.declared.Way.TheVariants.{Full, Skipping}
+use Rattle.absences.specs.Tried.{row_from, joins, listed, sizes_from, weighed}
 use Rattle.absences.specs.Asked.{found_before}
 use Rattle.absences.specs.Examples.{policy, named, Example, table_of, set_of_rows, yes_with, no_with, crews-with, none-with, undecided_with, refused_with_lem, ample, H}
 

@@ -8,7 +8,8 @@ use Rattle.roster.specs.declared.Reply.{Reply}
 use Rattle.roster.specs.Refusals.{policy_ruling}
 use Rattle.roster.specs.Replies.{no_crews, reply_with}
 use Rattle.crews.specs.Named.{first_list}
-use Rattle.absences.specs.Tried.{Way, Found}
+use Rattle.absences.specs.declared.Way.{Way}
+use Rattle.absences.specs.Tried.{Found}
 use Rattle.absences.specs.Asked.{found}
 use Rattle.roster.specs.declared.Refusal.{Refusal}
 

@@ -7,9 +7,8 @@ use Rattle.sets.specs.Sets.{with}
 use Rattle.roster.specs.declared.Table.{Table}
 use Rattle.roster.specs.Meaning.{outweighsb, rank}
 use Rattle.crews.specs.Filling.{Outcome}
--- "The search that skips tries only these; the full search tries all."
-pub use Rattle.absences.specs.declared.Way.{Way}
-pub use Rattle.absences.specs.declared.Way.TheVariants.{Full, Skipping}
+use Rattle.absences.specs.declared.Way.{Way}
+use Rattle.absences.specs.declared.Way.TheVariants.{Full, Skipping}
 
 -- the first of the n rows from u on that has rank r
 unfoldable pub row_from : Table → ℕ → ℕ → ℕ → ℕ → ℕ
@@ -24,6 +23,7 @@ row_at table P r = row_from table P r table.rows 0
 abbrev pub outweighers : Table → ℕ → ℕ → ℕ
 outweighers table P v = set_of table.rows (λ u. outweighsb table P u v)
 
+-- "The search that skips tries only these; the full search tries all."
 -- Whether row v may be added to the absence F: always; or, so that it stays worth trying, if all that outweigh v are in F.
 unfoldable pub joins : Way → Table → ℕ → ℕ → ℕ → Bool
 joins Full table P F v = true

@@ -2,7 +2,7 @@
 use crate::board::Board;
 use crate::words::Number;
 use crate::{books, said, words};
-use live::{Objection, Outcome, Roster, Told};
+use live::{Objection, Outcome, Roster, Told, Way};
 use roster::{Policy, Reply};
 use std::rt::Files;
 
@@ -232,10 +232,8 @@ fn policy(rt: &impl Print, board: Board, text: &[u8], is_skipping: bool) -> bool
 
 fn asked(roster: Roster, task: u32, text: &[u8], is_skipping: bool) -> Reply {
     let policy = policy_of(task, value(text, 2), text);
-    if is_skipping {
-        return live::ask_skipping(roster, policy, ALLOWANCE);
-    }
-    live::ask_full(roster, policy, ALLOWANCE)
+    let way = if is_skipping { Way::Skipping } else { Way::Full };
+    live::ask(way, roster, policy, ALLOWANCE)
 }
 
 // The crews that there are with these people away.

@@ -6,6 +6,7 @@
 use crate::line::Line;
 use crate::words::{after, behind, byte_at, narrow, next_word, number_at};
 use accounts::Accounts;
+use questions::Way;
 use roster::Policy;
 
 // More than any need here.
@@ -155,13 +156,13 @@ pub(crate) fn allowance_at(text: &[u8], at: usize) -> u32 {
 
 pub(crate) fn skipping(text: &[u8], at: usize) -> Line {
     let asked = policy_at(text, next_word(text, at));
-    let reply = questions::ask_skipping(accounts_at(text, at), asked, allowance_at(text, at));
+    let reply = questions::ask(Way::Skipping, accounts_at(text, at), asked, allowance_at(text, at));
     Line::empty().reply(reply)
 }
 
 pub(crate) fn full(text: &[u8], at: usize) -> Line {
     let asked = policy_at(text, next_word(text, at));
-    let reply = questions::ask_full(accounts_at(text, at), asked, allowance_at(text, at));
+    let reply = questions::ask(Way::Full, accounts_at(text, at), asked, allowance_at(text, at));
     Line::empty().reply(reply)
 }
 

@@ -10,7 +10,7 @@ use crate::listed;
 use crate::words::{
     after, argument, behind, byte_at, is_word, line_end, narrow, next_word, part, word_behind,
 };
-use live::{Outcome, Roster, Told};
+use live::{Outcome, Roster, Told, Way};
 use std::io;
 use std::rt::Files;
 
@@ -71,9 +71,9 @@ fn policy(roster: Roster, text: &[u8], at: usize) -> Line {
     let asked = listed::policy_at(text, word_behind(text, at, 2));
     let allowance = number(text, at, 10);
     if is_word(text, next_word(text, at), b"full") {
-        return listed::replied(Line::empty(), live::ask_full(roster, asked, allowance));
+        return listed::replied(Line::empty(), live::ask(Way::Full, roster, asked, allowance));
     }
-    listed::replied(Line::empty(), live::ask_skipping(roster, asked, allowance))
+    listed::replied(Line::empty(), live::ask(Way::Skipping, roster, asked, allowance))
 }
 
 // Of the first edition.

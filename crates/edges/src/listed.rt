@@ -14,6 +14,7 @@ use crate::words::{
     word_behind, word_end,
 };
 use accounts::Accounts;
+use questions::Way;
 use roster::{Policy, Reply, Verdict};
 use std::rt::Files;
 
@@ -93,9 +94,9 @@ fn policy(line: Line, text: &[u8], at: usize) -> Line {
     let asked = policy_at(text, word_behind(text, at, 2));
     let allowance = narrow(argument(text, at, 10));
     if is_word(text, next_word(text, at), b"full") {
-        return replied(line, questions::ask_full(accounts, asked, allowance));
+        return replied(line, questions::ask(Way::Full, accounts, asked, allowance));
     }
-    replied(line, questions::ask_skipping(accounts, asked, allowance))
+    replied(line, questions::ask(Way::Skipping, accounts, asked, allowance))
 }
 
 // What comes of a question for a named absence, or of why it blocks.

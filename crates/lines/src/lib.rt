@@ -14,6 +14,7 @@ ghost use Rattle.lines.specs.Sheet.{allowance, way, answer_to, numbers_in, line_
 
 use accounts::Accounts;
 use book::{Listed, Reading};
+use questions::Way;
 use roster::{Policy, Reply, Verdict};
 
 // No sheet is longer: 32 lines of at most 726 bytes each.
@@ -76,7 +77,7 @@ pub fn bad_line(out: &mut [u8], fault: u32, place: usize) -> usize
 fn reply_of(accounts: Accounts, policy: Policy) -> Reply
     ensures { PolicyAskedFor way accounts policy allowance result }
 {
-    questions::ask_skipping(accounts, policy, ALLOWANCE)
+    questions::ask(Way::Skipping, accounts, policy, ALLOWANCE)
 }
 
 // A policy is asked, and the line of its reply is written.

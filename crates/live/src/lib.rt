@@ -6,7 +6,6 @@
 ghost use Rattle.std.specs.Prelude.{◌≡◌, ◌<◌};
 ghost use Rattle.sets.specs.Sets.{with, less};
 ghost use Rattle.roster.specs.Limits.{row_limit};
-ghost use Rattle.absences.specs.Tried.{full, skipping};
 ghost use Rattle.absences.specs.Asked.{PolicyReplyFor};
 ghost use Rattle.crews.specs.Named.{NamedReplyFor};
 ghost use Rattle.live.specs.Numbers.{objection_number};
@@ -14,6 +13,8 @@ ghost use Rattle.live.specs.Changes.{hire, leave, grant, revoke, told_of, empty,
 ghost use Rattle.live.specs.Changes.{place_in, free_in, hired_at, cleared_of, left_at, granted_at, revoked_at, turned_at, changed_by};
 
 use roster::{Policy, Reply, Table};
+
+pub use absences::Way;
 
 // Who stands at which place: bit i of `occupied` says that place i is taken. A place that is not has staff number 0 and holdings 0, and stands
 // in no set of `holders`.
@@ -329,18 +330,11 @@ impl Roster {
     }
 }
 
-// A policy asked of the roster's table, by the search that skips.
-pub fn ask_skipping(roster: Roster, policy: Policy, allowance: u32) -> Reply
-    ensures { PolicyReplyFor skipping (table_of roster) policy allowance result }
+// A policy asked of the roster's table, by this search.
+pub fn ask(way: Way, roster: Roster, policy: Policy, allowance: u32) -> Reply
+    ensures { PolicyReplyFor way (table_of roster) policy allowance result }
 {
-    absences::ask_skipping(roster.table(), policy, allowance)
-}
-
-// The same by the search that tries every absence.
-pub fn ask_full(roster: Roster, policy: Policy, allowance: u32) -> Reply
-    ensures { PolicyReplyFor full (table_of roster) policy allowance result }
-{
-    absences::ask_full(roster.table(), policy, allowance)
+    absences::ask(way, roster.table(), policy, allowance)
 }
 
 // A named absence asked of the roster's table: `absent` is a set of that table's rows.

@@ -8,7 +8,8 @@ use Rattle.roster.specs.declared.Policy.{Policy}
 use Rattle.roster.specs.declared.Reply.{Reply}
 use Rattle.roster.specs.declared.Table.{Table}
 use Rattle.crews.specs.Named.{first_list}
-use Rattle.absences.specs.Tried.{Way, Skipping}
+use Rattle.absences.specs.declared.Way.{Way}
+use Rattle.absences.specs.declared.Way.TheVariants.{Skipping}
 use Rattle.absences.specs.Asked.{Admits, need_policy, PolicyReply}
 use Rattle.accounts.specs.Persons.{number, merged}
 use Rattle.book.specs.Layout.{Contents, LayoutOf}

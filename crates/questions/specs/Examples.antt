@@ -12,7 +12,9 @@ use Rattle.roster.specs.declared.Reply.{Reply}
 use Rattle.roster.specs.Meaning.{least_members, outweighsb, ahead, rank}
 use Rattle.roster.specs.Refusals.{policy_ruling, named_ruling}
 use Rattle.crews.specs.Filling.{place_of, close_of, closes_of, placed_of, pool_of, candidates, try_each, search}
-use Rattle.absences.specs.Tried.{row_from, Way, Full, Skipping, joins, listed, sizes_from, weighed}
+use Rattle.absences.specs.declared.Way.{Way}
+use Rattle.absences.specs.declared.Way.TheVariants.{Full, Skipping}
+use Rattle.absences.specs.Tried.{row_from, joins, listed, sizes_from, weighed}
 use Rattle.absences.specs.Replied.{policy_reply_of}
 use Rattle.absences.specs.Examples.{set_of_rows, yes_with, no_with, crews-with, none-with, undecided_with, refused_with_lem, ample}
 use Rattle.accounts.specs.declared.Accounts.{Accounts}

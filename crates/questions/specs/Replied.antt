@@ -5,7 +5,7 @@ use Rattle.roster.specs.declared.Verdict.TheVariants.{Refused}
 use Rattle.roster.specs.declared.Reply.{Reply}
 use Rattle.roster.specs.Replies.{no_crews, reply_with}
 use Rattle.crews.specs.Named.{named_reply_of}
-use Rattle.absences.specs.Tried.{Way}
+use Rattle.absences.specs.declared.Way.{Way}
 use Rattle.absences.specs.Replied.{policy_reply_of}
 use Rattle.accounts.specs.declared.Accounts.{Accounts}
 use Rattle.accounts.specs.Persons.{merged}

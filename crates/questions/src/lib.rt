@@ -3,36 +3,22 @@
 // persons.
 #![tactic(auto)]
 
-ghost use Rattle.absences.specs.Tried.{full, skipping};
 ghost use Rattle.questions.specs.Asked.{PolicyAskedFor, NamedAskedFor};
 
 use accounts::Accounts;
 use roster::{Policy, Reply};
 
-// The policy question by the search that tries only the absences worth trying.
-pub fn ask_skipping(accounts: Accounts, policy: Policy, allowance: u32) -> Reply
-    ensures { PolicyAskedFor skipping accounts policy allowance result }
-{
-    match accounts::ruling(accounts) {
-        Err(refusal) => Reply::refused(refusal),
-        Ok(()) => {
-            let people = accounts::merged(accounts);
-            let table = people.table;
-            absences::ask_skipping(table, policy, allowance)
-        }
-    }
-}
+pub use absences::Way;
 
-// The policy question by the search that tries every absence.
-pub fn ask_full(accounts: Accounts, policy: Policy, allowance: u32) -> Reply
-    ensures { PolicyAskedFor full accounts policy allowance result }
+// The policy question, by this search.
+pub fn ask(way: Way, accounts: Accounts, policy: Policy, allowance: u32) -> Reply
+    ensures { PolicyAskedFor way accounts policy allowance result }
 {
     match accounts::ruling(accounts) {
         Err(refusal) => Reply::refused(refusal),
         Ok(()) => {
             let people = accounts::merged(accounts);
-            let table = people.table;
-            absences::ask_full(table, policy, allowance)
+            absences::ask(way, people.table, policy, allowance)
         }
     }
 }
@@ -45,8 +31,7 @@ pub fn ask_named(accounts: Accounts, policy: Policy, absent: u64, allowance: u32
         Err(refusal) => Reply::refused(refusal),
         Ok(()) => {
             let people = accounts::merged(accounts);
-            let table = people.table;
-            crews::ask_named(table, policy, absent, allowance)
+            crews::ask_named(people.table, policy, absent, allowance)
         }
     }
 }

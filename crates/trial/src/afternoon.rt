@@ -8,7 +8,7 @@ use crate::plain::{Duty, PERMISSIONS, ROWS};
 use crate::question::AMPLE;
 use crate::shown::show_name;
 use crate::{compare, family, known, listed};
-use live::{Outcome, Roster, Told};
+use live::{Outcome, Roster, Told, Way};
 use roster::{Policy, Reply};
 use std::io;
 
@@ -176,10 +176,8 @@ fn policy_of(asked: Asked) -> Policy {
 
 fn policy(pair: Pair, asked: Asked, skipping: bool) -> Reply {
     let roster = pair.roster;
-    if skipping {
-        return live::ask_skipping(roster, policy_of(asked), AMPLE);
-    }
-    live::ask_full(roster, policy_of(asked), AMPLE)
+    let way = if skipping { Way::Skipping } else { Way::Full };
+    live::ask(way, roster, policy_of(asked), AMPLE)
 }
 
 fn named(pair: Pair, asked: Asked, number: usize) -> Reply {

@@ -1,5 +1,6 @@
 // A question as the libraries are asked it.
 use accounts::Accounts;
+use questions::Way;
 use reasons::Explained;
 use roster::{Policy, Reply};
 
@@ -84,10 +85,10 @@ impl Question {
         let accounts = asked.accounts;
         let policy = asked.policy(self.away);
         if self.way == SKIPPING {
-            return questions::ask_skipping(accounts, policy, self.allowance);
+            return questions::ask(Way::Skipping, accounts, policy, self.allowance);
         }
         if self.way == FULL {
-            return questions::ask_full(accounts, policy, self.allowance);
+            return questions::ask(Way::Full, accounts, policy, self.allowance);
         }
         questions::ask_named(accounts, policy, self.absent, self.allowance)
     }

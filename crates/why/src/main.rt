@@ -9,6 +9,7 @@ use accounts::Accounts;
 use book::{Coded, Listed, Reading};
 use input::Progress;
 use lines::Writing;
+use questions::Way;
 use reasons::Explanation;
 use roster::{Policy, Table, Verdict};
 
@@ -87,7 +88,7 @@ fn reason(
 
 // What is said of a policy behind its index.
 fn verdict(out: &mut [u8], at: usize, book: &[u8], accounts: Accounts, policy: Policy) -> usize {
-    let reply = questions::ask_skipping(accounts, policy, lines::ALLOWANCE);
+    let reply = questions::ask(Way::Skipping, accounts, policy, lines::ALLOWANCE);
     let verdict = reply.verdict;
     match verdict {
         Verdict::No => {

@@ -13,7 +13,8 @@ use Rattle.crews.specs.Filling.{Outcome, filling, filling_before}
 use Rattle.crews.specs.Named.{first_list}
 use Rattle.crews.proofs.Laws.Ordered.{Alike}
 use Rattle.crews.proofs.Laws.Before.{same_as_before}
-use Rattle.absences.specs.Tried.{Way, tried, Found, weighed}
+use Rattle.absences.specs.declared.Way.{Way}
+use Rattle.absences.specs.Tried.{tried, Found, weighed}
 use Rattle.absences.specs.Asked.{Admits, found, PolicyReply, found_before, first_before, PolicyReplyBefore}
 use Rattle.absences.specs.Replied.{replied_by}
 use Rattle.absences.proofs.Laws.Weighed.{weighed-fits, weighed_blocks}

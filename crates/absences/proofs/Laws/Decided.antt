@@ -16,7 +16,9 @@ use Rattle.roster.proofs.Laws.Swap.{first-tried, first_blocker_worth, none-worth
 use Rattle.roster.proofs.Laws.Rulings.{policy_within}
 use Rattle.crews.specs.Filling.{filling}
 use Rattle.crews.proofs.Laws.Exact.{Fair, blocks_none, finds_none}
-use Rattle.absences.specs.Tried.{Way, Full, Skipping, tried, Found}
+use Rattle.absences.specs.declared.Way.{Way}
+use Rattle.absences.specs.declared.Way.TheVariants.{Full, Skipping}
+use Rattle.absences.specs.Tried.{tried, Found}
 use Rattle.absences.specs.Asked.{Refuses, Admits, found}
 use Rattle.absences.specs.Replied.{judged, verdict_of}
 use Rattle.absences.proofs.Laws.Listed.{Picked, tried_sound, tried-complete, tried_ascending}

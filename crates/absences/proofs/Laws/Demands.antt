@@ -16,7 +16,9 @@ use Rattle.crews.specs.Filling.{filling}
 use Rattle.crews.specs.Named.{first_list}
 use Rattle.crews.proofs.Laws.Sound.{none-at}
 use Rattle.crews.proofs.Laws.Exact.{crews-eight, crews-past, Fair, finds_list, finds_none, holds_all}
-use Rattle.absences.specs.Tried.{Way, Full, Skipping, Found}
+use Rattle.absences.specs.declared.Way.{Way}
+use Rattle.absences.specs.declared.Way.TheVariants.{Full, Skipping}
+use Rattle.absences.specs.Tried.{Found}
 use Rattle.absences.specs.Asked.{Admits, found, need_policy, PolicyReplyBy, PolicyReply, Tells}
 use Rattle.absences.specs.Replied.{verdict_of, replied_by, policy_reply_of}
 use Rattle.absences.proofs.Laws.Listed.{tried-complete, tried_ascending}

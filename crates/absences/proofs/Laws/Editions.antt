@@ -11,7 +11,7 @@ use Rattle.roster.specs.Meaning.{Holds}
 use Rattle.roster.specs.Refusals.{policy_ruling}
 use Rattle.roster.proofs.Laws.Rulings.{policy_within}
 use Rattle.roster.proofs.Laws.Editions.{holds-first, single_none}
-use Rattle.absences.specs.Tried.{Way}
+use Rattle.absences.specs.declared.Way.{Way}
 use Rattle.absences.specs.Asked.{Admits, need_policy, PolicyReply, Tells}
 use Rattle.absences.proofs.Laws.Demands.{policy_exactly}
 

@@ -7,7 +7,7 @@ use Rattle.roster.specs.declared.Reply.{Reply}
 use Rattle.crews.specs.Order.{InOrder}
 use Rattle.crews.proofs.Laws.Exact.{list-found}
 use Rattle.crews.proofs.Laws.InOrder.{filling_in_order}
-use Rattle.absences.specs.Tried.{Way}
+use Rattle.absences.specs.declared.Way.{Way}
 use Rattle.absences.specs.Asked.{PolicyReply}
 use Rattle.absences.proofs.Laws.Decided.{admitted_fair}
 use Rattle.absences.proofs.Laws.Demands.{policy_exactly}

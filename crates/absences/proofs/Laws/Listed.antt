@@ -14,7 +14,9 @@ use Rattle.std.proofs.lemmas.Nat.{ones-le}
 use Rattle.sets.proofs.Sets.{ones_none, ones-empty}
 use Rattle.roster.specs.declared.Table.{Table}
 use Rattle.roster.specs.Meaning.{Absence, Worth}
-use Rattle.absences.specs.Tried.{Way, Full, Skipping, listed, sizes_from, tried}
+use Rattle.absences.specs.declared.Way.{Way}
+use Rattle.absences.specs.declared.Way.TheVariants.{Full, Skipping}
+use Rattle.absences.specs.Tried.{listed, sizes_from, tried}
 use Rattle.absences.specs.Inner.Opens.{Kept}
 use Rattle.absences.proofs.Laws.OneSize.{Ascending, ascending_append, size_sound, size_complete, size_ascending, nobody_kept}
 

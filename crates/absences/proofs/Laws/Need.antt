@@ -12,7 +12,8 @@ use Rattle.roster.proofs.Laws.Order.{first_blocker_unique}
 use Rattle.crews.specs.Filling.{Outcome, filling}
 use Rattle.crews.specs.Named.{need_named}
 use Rattle.crews.proofs.Laws.Exact.{Fair, blocks_none, finds_none}
-use Rattle.absences.specs.Tried.{Way, tried, Found, units_of, weighed}
+use Rattle.absences.specs.declared.Way.{Way}
+use Rattle.absences.specs.Tried.{tried, Found, units_of, weighed}
 use Rattle.absences.specs.Asked.{Admits, found, need_policy}
 use Rattle.absences.proofs.Laws.Listed.{tried_sound}
 use Rattle.absences.proofs.Laws.Weighed.{clash, weighed-fits, weighed_blocks, weighed-none}

@@ -16,7 +16,8 @@ use Rattle.sets.specs.Laws.Sums.{either}
 use Rattle.roster.specs.declared.Table.{Table}
 use Rattle.roster.specs.Meaning.{rank, Earlier}
 use Rattle.roster.proofs.Laws.Rank.{rank_below}
-use Rattle.absences.specs.Tried.{row_at, Way, joins, listed}
+use Rattle.absences.specs.declared.Way.{Way}
+use Rattle.absences.specs.Tried.{row_at, joins, listed}
 use Rattle.absences.specs.Inner.Opens.{Must, Kept}
 use Rattle.absences.proofs.Laws.Rows.{row_at_lt, rank_row_at, row_at_rank, must_rank, joins_iff}
 

@@ -8,7 +8,8 @@ use Rattle.roster.specs.declared.Table.{Table}
 use Rattle.roster.specs.Meaning.{Absence, Earlier}
 use Rattle.roster.proofs.Laws.Order.{earlier_irrefl, earlier_trans}
 use Rattle.crews.specs.Filling.{filling}
-use Rattle.absences.specs.Tried.{Way, tried, weighed}
+use Rattle.absences.specs.declared.Way.{Way}
+use Rattle.absences.specs.Tried.{tried, weighed}
 use Rattle.absences.specs.Asked.{need_policy}
 use Rattle.absences.proofs.Laws.OneSize.{Ascending}
 use Rattle.absences.proofs.Laws.Listed.{Picked, tried_sound, tried-complete, tried_ascending}

@@ -14,7 +14,9 @@ use Rattle.sets.proofs.Laws.Build.{set_of-bit}
 use Rattle.roster.specs.declared.Table.{Table}
 use Rattle.roster.specs.Meaning.{outweighsb, rank}
 use Rattle.roster.proofs.Laws.Rank.{rank_inj, outweighs_iff, outweighs_trans}
-use Rattle.absences.specs.Tried.{Way, Full, Skipping, row_at, joins, listed}
+use Rattle.absences.specs.declared.Way.{Way}
+use Rattle.absences.specs.declared.Way.TheVariants.{Full, Skipping}
+use Rattle.absences.specs.Tried.{row_at, joins, listed}
 use Rattle.absences.specs.Inner.Opens.{Must, Unbarred, Opens, outweighed_at}
 use Rattle.absences.proofs.Laws.Rows.{row_at_lt, rank_row_at, must_rank, joins_iff}
 use Rattle.absences.proofs.Laws.OneSize.{listed-joins, listed_not, none_more, none_left}

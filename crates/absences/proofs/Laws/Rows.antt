@@ -11,7 +11,9 @@ use Rattle.sets.proofs.Laws.Build.{set_of-bit, set_of_high}
 use Rattle.roster.specs.declared.Table.{Table}
 use Rattle.roster.specs.Meaning.{Outweighs, outweighsb, rank}
 use Rattle.roster.proofs.Laws.Rank.{outweighs_iff, outweighs_rank, rank_below, rank_inj, rank_onto}
-use Rattle.absences.specs.Tried.{row_from, row_at, outweighers, Way, Full, Skipping, joins}
+use Rattle.absences.specs.declared.Way.{Way}
+use Rattle.absences.specs.declared.Way.TheVariants.{Full, Skipping}
+use Rattle.absences.specs.Tried.{row_from, row_at, outweighers, joins}
 use Rattle.absences.specs.Inner.Opens.{Must}
 
 -- ---- the row of a rank

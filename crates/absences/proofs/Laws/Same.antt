@@ -19,7 +19,9 @@ use Rattle.roster.specs.Refusals.{policy_ruling}
 use Rattle.roster.proofs.Laws.Same.{Agree, same_rank}
 use Rattle.crews.specs.Filling.{Outcome, filling}
 use Rattle.crews.proofs.Laws.Same.{same_filling}
-use Rattle.absences.specs.Tried.{row_from, row_at, Way, Full, Skipping, joins, listed, sizes_from, sizes_to, tried, Found, weighed}
+use Rattle.absences.specs.declared.Way.{Way}
+use Rattle.absences.specs.declared.Way.TheVariants.{Full, Skipping}
+use Rattle.absences.specs.Tried.{row_from, row_at, joins, listed, sizes_from, sizes_to, tried, Found, weighed}
 use Rattle.absences.specs.Asked.{found, PolicyReply}
 use Rattle.absences.specs.Replied.{replied_by, policy_reply_of}
 use Rattle.absences.proofs.Laws.Rows.{row_here, row_next, row_at_lt}

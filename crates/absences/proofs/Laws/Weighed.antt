@@ -13,7 +13,8 @@ use Rattle.roster.specs.declared.Table.{Table}
 use Rattle.roster.specs.Meaning.{Earlier}
 use Rattle.roster.proofs.Laws.Order.{earlier_irrefl}
 use Rattle.crews.specs.Filling.{Outcome}
-use Rattle.absences.specs.Tried.{row_at, Full, Skipping, joins, listed, sizes_from, tried, Found, units_of, weighed}
+use Rattle.absences.specs.declared.Way.TheVariants.{Full, Skipping}
+use Rattle.absences.specs.Tried.{row_at, joins, listed, sizes_from, tried, Found, units_of, weighed}
 use Rattle.absences.proofs.Laws.OneSize.{Ascending, listed-joins, listed_not}
 
 -- a test has one outcome

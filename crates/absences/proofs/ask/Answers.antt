@@ -15,7 +15,7 @@ use Rattle.roster.proofs.Laws.Rulings as rulings
 use Rattle.sets.specs.Arrays.{tabulate, at}
 use Rattle.crews.specs.Filling.{holds_of}
 use Rattle.absences.specs.declared.Search.{Search}
-use Rattle.absences.specs.Tried.{Way, row_at}
+use Rattle.absences.specs.Tried.{row_at}
 use Rattle.absences.proofs.Laws.Rows.{row_at_lt}
 use Rattle.absences.specs.Inner.Walk.{rank_by, weight_by, Counted, Lent, Ranked, searched_by}
 use Rattle.absences.proofs.Rank.{counted_of, order_at, weight_at}

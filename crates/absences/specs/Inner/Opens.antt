@@ -5,7 +5,9 @@ use Rattle.sets.specs.Members.{set_of}
 use Rattle.sets.specs.Sets.{Has}
 use Rattle.roster.specs.declared.Table.{Table}
 use Rattle.roster.specs.Meaning.{Outweighs, outweighsb, rank}
-use Rattle.absences.specs.Tried.{Way, Full, Skipping, row_at}
+use Rattle.absences.specs.declared.Way.{Way}
+use Rattle.absences.specs.declared.Way.TheVariants.{Full, Skipping}
+use Rattle.absences.specs.Tried.{row_at}
 
 -- u has to be absent where v is: never, or if it outweighs v
 abbrev pub Must : Way → Table → ℕ → ℕ → ℕ → Type 0

@@ -12,7 +12,7 @@ use Rattle.roster.specs.Limits.{row_limit}
 use Rattle.roster.specs.declared.Reply.{Reply}
 use Rattle.roster.specs.declared.Table.{Table}
 use Rattle.crews.specs.Named.{NamedReply}
-use Rattle.absences.specs.Tried.{Way}
+use Rattle.absences.specs.declared.Way.{Way}
 use Rattle.absences.specs.Asked.{PolicyReply}
 use Rattle.accounts.specs.Persons.{persons}
 use Rattle.accounts.specs.Meaning.{row_by_row, Different}

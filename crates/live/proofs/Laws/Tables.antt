@@ -12,7 +12,7 @@ use Rattle.sets.specs.Arrays.{at, tabulate}
 use Rattle.roster.specs.declared.Table.{Table}
 use Rattle.roster.specs.declared.Reply.{Reply}
 use Rattle.crews.specs.Named.{NamedReply}
-use Rattle.absences.specs.Tried.{Way}
+use Rattle.absences.specs.declared.Way.{Way}
 use Rattle.absences.specs.Asked.{PolicyReply}
 use Rattle.live.specs.Changes.{Call, after, gathered_of, table_of}
 use Rattle.live.specs.Plain.{Somebody, Plain, member, somebodies, held_by, plain_table, plain_numbers, plain_after}

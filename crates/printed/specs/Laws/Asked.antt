@@ -7,7 +7,7 @@ use Rattle.roster.specs.Limits.{row_limit}
 use Rattle.roster.specs.Refusals.{policy_ruling}
 use Rattle.roster.specs.declared.Policy.{Policy}
 use Rattle.roster.specs.declared.Reply.{Reply}
-use Rattle.absences.specs.Tried.{Skipping}
+use Rattle.absences.specs.declared.Way.TheVariants.{Skipping}
 use Rattle.accounts.specs.Persons.{persons}
 use Rattle.accounts.proofs.Laws.Merged.{persons_few}
 use Rattle.absences.specs.Asked.{Admits, Tells}

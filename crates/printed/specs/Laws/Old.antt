@@ -12,7 +12,7 @@ use Rattle.sets.specs.Laws.Arrays.{length-tabulate, tabulated}
 use Rattle.roster.specs.Limits.{row_limit}
 use Rattle.roster.specs.declared.Policy.{Policy}
 use Rattle.roster.specs.declared.Reply.{Reply}
-use Rattle.absences.specs.Tried.{Skipping}
+use Rattle.absences.specs.declared.Way.TheVariants.{Skipping}
 use Rattle.absences.specs.Replied.{policy_reply_of}
 use Rattle.absences.proofs.Laws.Demands.{policy_allowed}
 use Rattle.accounts.specs.Persons.{number}

@@ -12,7 +12,7 @@ use Rattle.roster.specs.declared.Reply.{Reply}
 use Rattle.roster.specs.declared.Verdict.{Verdict}
 use Rattle.roster.specs.declared.Verdict.TheVariants.{Yes, No, Undecided}
 use Rattle.crews.proofs.Laws.Exact.{Fair}
-use Rattle.absences.specs.Tried.{Skipping}
+use Rattle.absences.specs.declared.Way.TheVariants.{Skipping}
 use Rattle.absences.specs.Asked.{Admits, Tells}
 use Rattle.absences.proofs.Laws.Decided.{admitted_fair}
 use Rattle.absences.proofs.Laws.Demands.{policy_yes, policy_no}

@@ -11,7 +11,7 @@ use Rattle.roster.specs.declared.Verdict.{Verdict}
 use Rattle.roster.specs.declared.Verdict.TheVariants.{Yes, No, Undecided, Crews, None, Refused}
 use Rattle.roster.specs.declared.Reply.{Reply}
 use Rattle.crews.proofs.Laws.Sound.{none-at}
-use Rattle.absences.specs.Tried.{Way}
+use Rattle.absences.specs.declared.Way.{Way}
 use Rattle.absences.specs.Asked.{Admits, need_policy, PolicyReply, Tells}
 use Rattle.absences.proofs.Laws.Decided.{Case, is_refused_lem, is_undecided, is_yes, is_no, admitted_fair, policy_case}
 use Rattle.absences.proofs.Laws.Demands.{policy_exactly}

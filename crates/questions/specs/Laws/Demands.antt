@@ -14,7 +14,8 @@ use Rattle.roster.specs.Replies.{no_crews, reply_with}
 use Rattle.roster.proofs.Laws.Rulings.{or_else, named-after_policy, policy_nobody, policy_rows, named-rows, policy_few, past-rows_iff}
 use Rattle.crews.specs.Named.{need_named, NamedReply}
 use Rattle.crews.proofs.Laws.Named as named
-use Rattle.absences.specs.Tried.{Way, Full, Skipping}
+use Rattle.absences.specs.declared.Way.{Way}
+use Rattle.absences.specs.declared.Way.TheVariants.{Full, Skipping}
 use Rattle.absences.specs.Asked.{need_policy}
 use Rattle.absences.specs.Asked as tables
 use Rattle.absences.proofs.Laws.Demands as policy

@@ -4,7 +4,7 @@ use Rattle.std.proofs.Common.{sym, ap, ◌∙◌, inl, inr, ⊎_elim, arith}
 use Rattle.roster.specs.declared.Verdict.TheVariants.{Yes, No, Undecided}
 use Rattle.roster.specs.declared.Reply.{Reply}
 use Rattle.roster.proofs.Laws.Rulings.{policy_rows, policy_few}
-use Rattle.absences.specs.Tried.{Way}
+use Rattle.absences.specs.declared.Way.{Way}
 use Rattle.absences.proofs.Laws.Editions as tables
 use Rattle.accounts.specs.declared.Accounts.{Accounts}
 use Rattle.accounts.specs.Persons.{persons, merged}

@@ -12,7 +12,7 @@ use Rattle.roster.proofs.Laws.Rulings.{policy_rows, named-rows}
 use Rattle.crews.specs.Named.{NamedReply}
 use Rattle.crews.proofs.Laws.Named.{named_same, named_agree}
 use Rattle.crews.proofs.Laws.Allowed.{named_allowed}
-use Rattle.absences.specs.Tried.{Way}
+use Rattle.absences.specs.declared.Way.{Way}
 use Rattle.absences.specs.Asked.{PolicyReply}
 use Rattle.absences.proofs.Laws.Demands.{policy_same, policy_allowed}
 use Rattle.absences.proofs.Laws.Same.{policy_agree}

@@ -3,7 +3,7 @@ use Rattle.std.specs.Prelude.{◌≡◌, refl, ◌≢◌, ℕ, ◌^◌, ◌≤�
 use Rattle.std.proofs.Common.{sym, ap, ◌∙◌, inl, inr, arith}
 use Rattle.roster.specs.declared.Verdict.TheVariants.{No}
 use Rattle.roster.specs.declared.Reply.{Reply}
-use Rattle.absences.specs.Tried.{Way}
+use Rattle.absences.specs.declared.Way.{Way}
 use Rattle.absences.proofs.Laws.Demands.{policy_exactly}
 use Rattle.absences.proofs.Laws.Need.{blocker_need}
 use Rattle.accounts.specs.declared.Accounts.{Accounts}

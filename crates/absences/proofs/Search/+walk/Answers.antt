@@ -11,7 +11,7 @@ use Rattle.sets.specs.Sets.{with, missing}
 use Rattle.sets.specs.Arrays.{at}
 use Rattle.absences.specs.declared.Search.{Search}
 use Rattle.absences.specs.declared.Stop.{Stop}
-use Rattle.absences.specs.Tried.{Way}
+use Rattle.absences.specs.declared.Way.{Way}
 use Rattle.absences.specs.Inner.Opens.{Opens}
 use Rattle.absences.specs.Inner.Walk.{Lent, Ranked, walked_by, onward}
 use Rattle.absences.proofs.Turns as turns

@@ -1,12 +1,11 @@
 -- The loop's invariant, for every table that what is lent is of: the ranks are open as `ranks` says, and what is to be answered is what the
 -- absences from there on come to at `units`. The measure of the recursion is how many rows are wanted, that of the loop how many ranks are open.
 use mathlib.Core.Path.{◌≡◌}
-use mathlib.Core.List.{List}
 use Prim.Native.Nat.{ℕ, ◌≤◌}
 use lib.Count.{ones}
 use Rattle.roster.specs.declared.Table.{Table}
 use Rattle.absences.specs.declared.Search.{Search}
-use Rattle.absences.specs.Tried.{Way}
+use Rattle.absences.specs.declared.Way.{Way}
 use Rattle.absences.specs.Inner.Opens.{Opens}
 use Rattle.absences.specs.Inner.Walk.{Lent, Ranked, walked_by, onward}
 use Rattle.absences.proofs.Search.+walk.Given as goal

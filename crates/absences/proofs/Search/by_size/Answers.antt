@@ -8,7 +8,8 @@ use Rattle.std.specs.Prelude.{Err}
 use Rattle.roster.specs.declared.Table.{Table}
 use Rattle.absences.specs.Inner.Opens.{Opens}
 use Rattle.absences.specs.Inner.Walk.{Lent, Ranked, walked_by, onward}
-use Rattle.absences.specs.Tried.{Way, sizes_from}
+use Rattle.absences.specs.declared.Way.{Way}
+use Rattle.absences.specs.Tried.{sizes_from}
 use Rattle.absences.specs.declared.Search.{Search}
 use Rattle.absences.proofs.Laws.Open.{all_open}
 use Rattle.absences.proofs.Sizes.{sizes_end, size_none, size_stops}

@@ -4,7 +4,8 @@ use mathlib.Core.Path.{◌≡◌}
 use Prim.Native.Nat.{◌+◌, ◌-◌, ◌≤◌}
 use Rattle.roster.specs.declared.Table.{Table}
 use Rattle.absences.specs.Inner.Walk.{Lent, Ranked, walked_by}
-use Rattle.absences.specs.Tried.{Way, sizes_from, sizes_to}
+use Rattle.absences.specs.declared.Way.{Way}
+use Rattle.absences.specs.Tried.{sizes_from, sizes_to}
 use Rattle.absences.proofs.Search.by_size.Given as goal
 
 abbrev pub invariant-loop-size : goal.invariant-loop-size

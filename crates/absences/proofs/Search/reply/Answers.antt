@@ -1,5 +1,5 @@
 -- Nobody absent first, at what an absence costs; if that does not block, the sizes from 1 on at what it took. Assumes nothing.
-use mathlib.Core.Path.{◌≡◌, ◌∙◌}
+use mathlib.Core.Path.{◌∙◌}
 use Rattle.absences.proofs.Replied.{within_first, all_open, all_stopped}
 use Rattle.absences.proofs.Search.reply.Goals as goal
 
