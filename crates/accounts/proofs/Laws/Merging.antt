@@ -1,17 +1,44 @@
 -- Merging row by row: after k rows there are the persons of those rows, with their numbers and with what these rows give them. Assumes nothing.
-use Rattle.std.specs.Prelude.{◌≡◌, ◌≢◌, List, ℕ, suc, ◌+◌, ◌≤◌, ◌<◌, eqb, length, set, replicate}
-use Rattle.std.proofs.Common.{sym, ap, ap₂, ◌∙◌, add-one, arith, length-set, get_or-set_same, get_or-set_other}
+use Rattle.std.specs.Prelude.{◌≡◌, ◌≢◌, Bool, true, false, ◌⊎◌, List, [], ◌∷◌, ℕ, zero, suc, ◌+◌, ◌≤◌, ◌<◌, eqb, length, set, take, replicate, cond, Some, None, unwrap_or, position, nat_lt}
+use Rattle.std.specs.List.{position_or_len}
+use Rattle.std.proofs.Common.{refl, inl, inr, sym, ap, ap₂, ◌∙◌, add-one, arith, lt-ltb, le-ltb, length-take-le, length-set, get_or-set_same, get_or-set_other}
 use Rattle.std.proofs.Math.Decide.{dec_lt, ℕ_discrete}
 use Rattle.std.specs.Int.Bits.{bit_or}
 use Rattle.sets.specs.Arrays.{tabulate, at}
+use Rattle.sets.specs.Laws.Sums.{either}
 use Rattle.sets.specs.Laws.Arrays.{passed_none, tabulated}
 use Rattle.accounts.specs.declared.Accounts.{Accounts}
 use Rattle.accounts.specs.declared.People.{People}
 use Rattle.accounts.specs.Persons.{first, count_of, person_of, held_by, number_of, rows_of, holds, number, people_of}
-use Rattle.accounts.specs.Laws.First.{first_ext}
+use Rattle.accounts.specs.Laws.First.{first_le, first_ext}
 use Rattle.accounts.proofs.Laws.Numbering.{count_none, count_more, count_same, person-at_most, person-new, person_known}
 use Rattle.accounts.proofs.Laws.Holdings.{held_none, held_more, held_other}
 use Rattle.accounts.proofs.Laws.Numbers.{number_past, number_is, number_kept, looked_up}
+
+-- what `position` finds among the first n is the first that passes, and where it finds nothing the first is n
+or_len : (test : ℕ → Bool) (n : ℕ) (l : List ℕ) → n ≤ length l → position_or_len test (take n l) ≡ first (λ i. test (at l i)) n
+unfolding first
+or_len test zero l h = refl
+or_len test (suc n) [] h = absurd (omega arith)
+or_len test (suc n) (x ∷ l) h = go (either (test x)) (or_len test n l (omega arith))
+  where
+    go : (test x ≡ true) ⊎ (test x ≡ false) → position_or_len test (take n l) ≡ first (λ i. test (at l i)) n
+        → position_or_len test (take (suc n) (x ∷ l)) ≡ first (λ i. test (at (x ∷ l) i)) (suc n)
+    go (inl y) ih = rw (y, first)
+    go (inr z) ih = rw (z, first) (omega (arith, ih))
+
+found : (k n : ℕ) → k ≤ n → unwrap_or (cond (nat_lt k n) (Some k) None) n ≡ k
+found k n h = go (dec_lt k n)
+  where
+    go : Dec (k < n) → unwrap_or (cond (nat_lt k n) (Some k) None) n ≡ k
+    go (yes b) = let t : nat_lt k n ≡ true = lt-ltb k n b in rw t
+    go (no c) = let t : nat_lt k n ≡ false = le-ltb k n (omega arith) in rw t (omega arith)
+
+position_first : (test : ℕ → Bool) (n : ℕ) (l : List ℕ) → n ≤ length l
+    → unwrap_or (position test (take n l)) n ≡ first (λ i. test (at l i)) n
+position_first test n l h =
+    rw (length-take-le n l h, or_len test n l h)
+    (found (first (λ i. test (at l i)) n) n (first_le (λ i. test (at l i)) n))
 
 -- the arrays and the count after k rows with the numbers f and the holdings h
 pub record Merging (f h : ℕ → ℕ) (k : ℕ) (held numbers : List ℕ) (count : ℕ) : Type 0 where
@@ -36,9 +63,10 @@ merging_none f h = record {
 
 module _ (f h : ℕ → ℕ) (k : ℕ) (held numbers : List ℕ) (count : ℕ) (m : Merging f h k held numbers count) where
   -- the place that the row's number is looked up at is its person
-  pub merging_place : (place : ℕ) → place ≡ first (λ i. eqb (at numbers i) (f k)) count → place ≡ person_of f k
+  pub merging_place : (place : ℕ) → place ≡ unwrap_or (position (λ x. eqb x (f k)) (take count numbers)) count → place ≡ person_of f k
   merging_place place e =
       e
+      ∙ position_first (λ x. eqb x (f k)) count numbers (omega (arith, m.few, m.within, m.long_numbers))
       ∙ first_ext (λ i. eqb (at numbers i) (f k)) (λ i. eqb (number_of f k i) (f k)) count (λ i l. ap (λ (x : ℕ). eqb x (f k)) (m.numbers_at i))
       ∙ ap (first (λ i. eqb (number_of f k i) (f k))) m.counted
       ∙ looked_up f k
