@@ -9,14 +9,14 @@ ghost use Rattle.sets.specs.Arrays.{at};
 ghost use Rattle.accounts.specs.Persons.{first};
 ghost use Rattle.reasons.specs.Reasons.{Reason, reason_number};
 ghost use Rattle.reasons.specs.Replies.{WhyReplyFor};
-ghost use Rattle.reasons.specs.Inner.{Stuck};
+ghost use Rattle.reasons.specs.Inner.{Stuck, permission_of};
 ghost use Rattle.reasons.specs.Replied.{scarce_in};
 
 use accounts::Accounts;
 use roster::{Policy, Refusal, Table, Verdict};
 
 // What is answered: one of the three reasons, the first that is true; that crews exist, so that there is nothing to explain; or why nothing can be
-// told.
+// told. One enum and no `Result` of them: the definition `reason_number` sets out this answer's number and value for each of its cases.
 #[derive(Clone, Copy)]
 pub enum Explanation {
     // too few of those present hold this permission of the task: its bit number
@@ -46,9 +46,7 @@ impl Explanation {
             Explanation::Scarce(_) => 1,
             Explanation::NoCrew => 2,
             Explanation::Overlap => 3,
-            Explanation::Nothing => 0,
-            Explanation::Undecided => 0,
-            Explanation::Refused(_) => 0,
+            Explanation::Nothing | Explanation::Undecided | Explanation::Refused(_) => 0,
         }
     }
 }
@@ -65,18 +63,16 @@ fn scarce(holders: &[u64; 32], task: u32, crews: usize, free: u64, permission: u
     present < crews
 }
 
-// The lowest such permission; 32 if there is none.
-fn lowest_scarce(holders: &[u64; 32], task: u32, crews: usize, free: u64) -> u32
-    ensures { result ≡ first (scarce_in (λ p. bit_and (at holders.now p) free) task crews) 32 }
+// The lowest such permission.
+fn lowest_scarce(holders: &[u64; 32], task: u32, crews: usize, free: u64) -> Option<u32>
+    ensures { result ≡ permission_of (first (scarce_in (λ p. bit_and (at holders.now p) free) task crews) 32) }
 {
-    let mut permission: u32 = 0;
-    while permission < 32 {
+    for permission in 0..32 {
         if scarce(holders, task, crews, free, permission) {
-            return permission;
+            return Some(permission);
         }
-        permission += 1;
     }
-    32
+    None
 }
 
 // The reason why an absence blocks. The named question for one crew needs no more than the one that was decided, so it is decided too.
@@ -87,20 +83,12 @@ fn reason(table: Table, policy: Policy, absent: u64, allowance: u32) -> Explanat
     let holds = crews::holdings_within(table, policy.task);
     let holders = crews::holders_of(&holds);
     let free = sets::below(table.rows) & !absent;
-    let permission = lowest_scarce(&holders, policy.task, policy.crews, free);
-    if permission < 32 {
+    if let Some(permission) = lowest_scarce(&holders, policy.task, policy.crews, free) {
         return Explanation::Scarce(permission);
     }
-    let single = Policy {
-        task: policy.task,
-        away: policy.away,
-        crews: 1,
-        size: policy.size,
-        edition: policy.edition,
-    };
+    let single = Policy { crews: 1, ..policy };
     let one = crews::ask_named(table, single, absent, allowance);
-    let verdict = one.verdict;
-    match verdict {
+    match one.verdict {
         Verdict::Crews => Explanation::Overlap,
         _ => Explanation::NoCrew,
     }
@@ -111,8 +99,7 @@ pub fn why(accounts: Accounts, policy: Policy, absent: u64, allowance: u32) -> E
     ensures { WhyReplyFor accounts policy absent allowance result }
 {
     let named = questions::ask_named(accounts, policy, absent, allowance);
-    let verdict = named.verdict;
-    let why = match verdict {
+    let why = match named.verdict {
         Verdict::Refused(refusal) => Explanation::Refused(refusal),
         Verdict::Crews => Explanation::Nothing,
         Verdict::None => {
@@ -122,7 +109,7 @@ pub fn why(accounts: Accounts, policy: Policy, absent: u64, allowance: u32) -> E
         _ => Explanation::Undecided,
     };
     Explained {
-        why: why,
+        why,
         units: named.units,
     }
 }
