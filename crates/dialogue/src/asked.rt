@@ -2,7 +2,7 @@
 use crate::board::Board;
 use crate::words::Number;
 use crate::{books, said, words};
-use live::{Objection, Outcome, Roster, Told, Way};
+use live::{Objection, Roster, Told, Way};
 use roster::{Policy, Reply};
 use std::rt::Files;
 
@@ -50,13 +50,11 @@ fn done(rt: &impl Print, place: usize) -> bool {
 
 // The call's answer, and the board that it leaves.
 fn called(rt: &impl Print, board: Board, told: Told) -> Board {
-    let outcome = told.outcome;
-    let is_heard = match outcome {
-        Outcome::Done(place) => done(rt, place),
-        Outcome::Refused(objection) => said::objection(rt, objection),
+    let is_heard = match told.outcome {
+        Ok(place) => done(rt, place),
+        Err(objection) => said::objection(rt, objection),
     };
-    let roster = told.roster;
-    board.with(roster).heard(is_heard)
+    board.with(told.roster).heard(is_heard)
 }
 
 // A line is a call, or a question, which leaves the board as it is.

@@ -10,7 +10,7 @@ use crate::listed;
 use crate::words::{
     after, argument, behind, byte_at, is_word, line_end, narrow, next_word, part, word_behind,
 };
-use live::{Outcome, Roster, Told, Way};
+use live::{Roster, Told, Way};
 use std::io;
 use std::rt::Files;
 
@@ -40,17 +40,15 @@ fn wide(n: u32) -> u64 {
 
 // What a call answers, and the roster that it leaves.
 fn answered(told: Told) -> Stepped {
-    let outcome = told.outcome;
-    let came = match outcome {
-        Outcome::Done(place) => Line::empty().word(b"ok ").number(place as u64),
-        Outcome::Refused(objection) => Line::empty()
+    let came = match told.outcome {
+        Ok(place) => Line::empty().word(b"ok ").number(place as u64),
+        Err(objection) => Line::empty()
             .word(b"refused:")
             .number(wide(objection.number())),
     };
-    let roster = told.roster;
     Stepped {
-        roster: roster,
-        came: came,
+        roster: told.roster,
+        came,
     }
 }
 

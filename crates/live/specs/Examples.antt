@@ -1,6 +1,6 @@
 -- A day of calls, each with its answer, what the roster holds on the way, and what is replied when it is asked, as one table: the definitions run
 -- on it. An answer is the place, or 100 and the number of the refusal.
-use Rattle.std.specs.Prelude.{◌≡◌, refl, List, [], ◌∷◌, ◌++◌, map, ℕ, zero, suc, ◌+◌, ◌-◌, ◌^◌, length, replicate, get_or}
+use Rattle.std.specs.Prelude.{◌≡◌, refl, List, [], ◌∷◌, ◌++◌, map, ℕ, zero, suc, ◌+◌, ◌-◌, ◌^◌, length, replicate, get_or, Result, Ok, Err}
 use Rattle.std.specs.Int.Count.{ones, ones_in, count_trailing_zeros}
 use Rattle.sets.specs.Sets.{bit}
 use Rattle.sets.specs.Sums.{sum_to, to_n}
@@ -19,8 +19,7 @@ use Rattle.absences.proofs.Examples.{all_allowed}
 use Rattle.live.specs.Changes.{Call, hire, leave, grant, revoke, first_from, told_of, empty, gathered_of, table_of}
 use Rattle.live.specs.Numbers.{objection_number}
 use Rattle.live.specs.declared.Roster.{Roster}
-use Rattle.live.specs.declared.Outcome.{Outcome}
-use Rattle.live.specs.declared.Outcome.TheVariants.{Done, Refused}
+use Rattle.live.specs.declared.Objection.{Objection}
 
 -- ---- how the table is written
 
@@ -32,9 +31,9 @@ infix 68 ◌answers◌
 abbrev pub ◌answers◌ : Call → ℕ → Turn
 c answers n = record { call = c; answer = n }
 
-abbrev pub said : Outcome → ℕ
-said (Done place) = place
-said (Refused objection) = 100 + objection_number objection
+abbrev pub said : Result ℕ Objection → ℕ
+said (Ok place) = place
+said (Err objection) = 100 + objection_number objection
 
 -- what the calls answer one after the other, and the roster after them
 abbrev pub told : Roster → List Turn → List ℕ

@@ -4,13 +4,12 @@
 #![tactic(auto)]
 
 ghost use Rattle.std.specs.Prelude.{◌≡◌, ◌<◌};
-ghost use Rattle.sets.specs.Sets.{with, less};
 ghost use Rattle.roster.specs.Limits.{row_limit};
 ghost use Rattle.absences.specs.Asked.{PolicyReplyFor};
 ghost use Rattle.crews.specs.Named.{NamedReplyFor};
 ghost use Rattle.live.specs.Numbers.{objection_number};
 ghost use Rattle.live.specs.Changes.{hire, leave, grant, revoke, told_of, empty, refusing, done, gathered_of, table_of};
-ghost use Rattle.live.specs.Changes.{place_in, free_in, hired_at, cleared_of, left_at, granted_at, revoked_at, turned_at, changed_by};
+ghost use Rattle.live.specs.Changes.{place_of, free_in, hired_at, cleared_of, left_at, granted_at, revoked_at, turned_at, changed_by};
 
 use roster::{Policy, Reply, Table};
 
@@ -27,7 +26,7 @@ pub struct Roster {
 }
 
 // Why a call is refused. `number` gives the number that is published for each.
-#[derive(Clone, Copy)]
+#[derive(Clone, Copy, Debug, PartialEq, Eq)]
 pub enum Objection {
     Permission,
     Nobody,
@@ -35,25 +34,11 @@ pub enum Objection {
     Full,
 }
 
-// What a call answers: the place that it concerned, or why nothing was done.
-#[derive(Clone, Copy)]
-pub enum Outcome {
-    Done(usize),
-    Refused(Objection),
-}
-
-// The roster after a call, and the call's answer.
+// The roster after a call, and what the call answers: the place that it concerned, or why nothing was done.
 #[derive(Clone, Copy)]
 pub struct Told {
     pub roster: Roster,
-    pub outcome: Outcome,
-}
-
-// Where somebody stands.
-#[derive(Clone, Copy)]
-enum Place {
-    At(usize),
-    Nowhere,
+    pub outcome: Result<usize, Objection>,
 }
 
 impl Objection {
@@ -70,38 +55,6 @@ impl Objection {
     }
 }
 
-// The set with this place.
-fn with_place(set: u64, place: usize) -> u64
-    requires { place < row_limit }
-    ensures { result ≡ with set place }
-{
-    set | (1u64 << place)
-}
-
-// The set without this place.
-fn without_place(set: u64, place: usize) -> u64
-    requires { place < row_limit }
-    ensures { result ≡ less 64 set place }
-{
-    set & !(1u64 << place)
-}
-
-// The holdings with this permission.
-fn with_permission(held: u32, permission: usize) -> u32
-    requires { permission < 32 }
-    ensures { result ≡ with held permission }
-{
-    held | (1u32 << permission)
-}
-
-// The holdings without this permission.
-fn without_permission(held: u32, permission: usize) -> u32
-    requires { permission < 32 }
-    ensures { result ≡ less 32 held permission }
-{
-    held & !(1u32 << permission)
-}
-
 // The lowest place that is not occupied; 64 if there is none.
 fn free_place(occupied: u64) -> usize
     ensures { result ≡ free_in occupied }
@@ -109,48 +62,27 @@ fn free_place(occupied: u64) -> usize
     sets::least(!occupied) as usize
 }
 
-// Where this staff number stands; were there several, the lowest place.
-fn place_of(staff: &[u32; Policy::ROWS], occupied: u64, number: u32) -> Place
-    ensures { result ≡ place_in occupied staff.now number }
-{
-    let mut place: usize = 0;
-    while place < Policy::ROWS {
-        if (occupied >> place) & 1 == 1 {
-            if staff[place] == number {
-                return Place::At(place);
-            }
-        }
-        place += 1;
-    }
-    Place::Nowhere
-}
-
 // The sets of holders without this place.
-fn cleared(holders: &[u64; 32], place: usize) -> [u64; 32]
+fn cleared(mut holders: [u64; 32], place: usize) -> [u64; 32]
     requires { place < row_limit }
-    ensures { result ≡ cleared_of place holders.now }
+    ensures { result ≡ cleared_of place holders }
 {
-    let mut next = [0u64; 32];
-    let mut permission: usize = 0;
-    while permission < 32 {
-        next[permission] = without_place(holders[permission], place);
-        permission += 1;
+    for set in holders.iter_mut() {
+        *set &= !(1u64 << place);
     }
-    next
+    holders
 }
 
 // What the array has at the occupied places, one after the other, and 0 past their number.
 fn gathered(from: &[u32; Policy::ROWS], occupied: u64) -> [u32; Policy::ROWS]
     ensures { result ≡ gathered_of occupied from.now }
 {
-    let mut next = [0u32; Policy::ROWS];
-    let mut row: usize = 0;
+    let mut next = [0; Policy::ROWS];
     let mut rest = occupied;
-    while rest != 0 {
+    for row in 0..sets::size(occupied) as usize {
         let place = sets::least(rest) as usize;
         next[row] = from[place];
-        rest = rest ^ (1u64 << place);
-        row += 1;
+        rest ^= 1u64 << place;
     }
     next
 }
@@ -168,13 +100,25 @@ impl Roster {
         }
     }
 
+    // Where this staff number stands; were there several, the lowest place.
+    fn place_of(&self, number: u32) -> Option<usize>
+        ensures { result ≡ place_of self.now number }
+    {
+        for (place, staff) in self.staff.iter().enumerate() {
+            if (self.occupied >> place) & 1 == 1 && *staff == number {
+                return Some(place);
+            }
+        }
+        None
+    }
+
     // The call is refused, and nothing changes.
     fn refusing(self, objection: Objection) -> Told
         ensures { result ≡ refusing objection self }
     {
         Told {
             roster: self,
-            outcome: Outcome::Refused(objection),
+            outcome: Err(objection),
         }
     }
 
@@ -184,61 +128,51 @@ impl Roster {
     {
         Told {
             roster: self,
-            outcome: Outcome::Done(place),
+            outcome: Ok(place),
         }
     }
 
     // This staff number at this place, with no holdings.
-    fn hired(self, place: usize, number: u32) -> Roster
+    fn hired(mut self, place: usize, number: u32) -> Roster
         requires { place < row_limit }
         ensures { result ≡ hired_at place number self }
     {
-        let mut next = self;
-        next.occupied = with_place(self.occupied, place);
-        next.staff[place] = number;
-        next.holdings[place] = 0;
-        next
+        self.occupied |= 1u64 << place;
+        self.staff[place] = number;
+        self.holdings[place] = 0;
+        self
     }
 
     // Nobody at this place, and so none of its holdings.
-    fn left(self, place: usize) -> Roster
+    fn left(mut self, place: usize) -> Roster
         requires { place < row_limit }
         ensures { result ≡ left_at place self }
     {
-        let holders = self.holders;
-        let fewer = cleared(&holders, place);
-        let mut next = self;
-        next.occupied = without_place(self.occupied, place);
-        next.staff[place] = 0;
-        next.holdings[place] = 0;
-        next.holders = fewer;
-        next
+        self.occupied &= !(1u64 << place);
+        self.staff[place] = 0;
+        self.holdings[place] = 0;
+        self.holders = cleared(self.holders, place);
+        self
     }
 
     // Whoever is at this place with this permission.
-    fn granted(self, place: usize, permission: usize) -> Roster
+    fn granted(mut self, place: usize, permission: usize) -> Roster
         requires { (place < row_limit) × (permission < 32) }
         ensures { result ≡ granted_at place permission self }
     {
-        let mut next = self;
-        let held = self.holdings[place];
-        next.holdings[place] = with_permission(held, permission);
-        let set = self.holders[permission];
-        next.holders[permission] = with_place(set, place);
-        next
+        self.holdings[place] |= 1u32 << permission;
+        self.holders[permission] |= 1u64 << place;
+        self
     }
 
     // Whoever is at this place without this permission.
-    fn revoked(self, place: usize, permission: usize) -> Roster
+    fn revoked(mut self, place: usize, permission: usize) -> Roster
         requires { (place < row_limit) × (permission < 32) }
         ensures { result ≡ revoked_at place permission self }
     {
-        let mut next = self;
-        let held = self.holdings[place];
-        next.holdings[place] = without_permission(held, permission);
-        let set = self.holders[permission];
-        next.holders[permission] = without_place(set, place);
-        next
+        self.holdings[place] &= !(1u32 << permission);
+        self.holders[permission] &= !(1u64 << place);
+        self
     }
 
     // Whoever is at this place with this permission, or without it.
@@ -247,36 +181,33 @@ impl Roster {
         ensures { result ≡ turned_at granting place permission self }
     {
         if granting {
-            return self.granted(place, permission);
+            self.granted(place, permission)
+        } else {
+            self.revoked(place, permission)
         }
-        self.revoked(place, permission)
     }
 
     // This staff number takes the lowest free place, with no holdings.
     pub fn hire(self, number: u32) -> Told
         ensures { result ≡ told_of self (hire number) }
     {
-        let staff = self.staff;
-        match place_of(&staff, self.occupied, number) {
-            Place::At(_) => self.refusing(Objection::Present),
-            Place::Nowhere => {
-                if self.occupied == !0u64 {
-                    return self.refusing(Objection::Full);
-                }
-                let place = free_place(self.occupied);
-                self.hired(place, number).done(place)
-            }
+        if self.place_of(number).is_some() {
+            return self.refusing(Objection::Present);
         }
+        if self.occupied == !0u64 {
+            return self.refusing(Objection::Full);
+        }
+        let place = free_place(self.occupied);
+        self.hired(place, number).done(place)
     }
 
     // This staff number leaves its place, which can then be taken again.
     pub fn leave(self, number: u32) -> Told
         ensures { result ≡ told_of self (leave number) }
     {
-        let staff = self.staff;
-        match place_of(&staff, self.occupied, number) {
-            Place::At(place) => self.left(place).done(place),
-            Place::Nowhere => self.refusing(Objection::Nobody),
+        match self.place_of(number) {
+            Some(place) => self.left(place).done(place),
+            None => self.refusing(Objection::Nobody),
         }
     }
 
@@ -287,16 +218,16 @@ impl Roster {
         if permission > 31 {
             return self.refusing(Objection::Permission);
         }
-        let staff = self.staff;
-        match place_of(&staff, self.occupied, number) {
-            Place::At(place) => self
+        match self.place_of(number) {
+            Some(place) => self
                 .turned(place, permission as usize, granting)
                 .done(place),
-            Place::Nowhere => self.refusing(Objection::Nobody),
+            None => self.refusing(Objection::Nobody),
         }
     }
 
     // This staff number holds this permission from now on.
+    #[tactic(auto, unfolding(crate::specs::Changes::told_of))]
     pub fn grant(self, number: u32, permission: u32) -> Told
         ensures { result ≡ told_of self (grant number permission) }
     {
@@ -304,6 +235,7 @@ impl Roster {
     }
 
     // This staff number does not hold this permission from now on.
+    #[tactic(auto, unfolding(crate::specs::Changes::told_of))]
     pub fn revoke(self, number: u32, permission: u32) -> Told
         ensures { result ≡ told_of self (revoke number permission) }
     {
@@ -314,9 +246,8 @@ impl Roster {
     pub fn table(self) -> Table
         ensures { result ≡ table_of self }
     {
-        let held = self.holdings;
         Table {
-            holdings: gathered(&held, self.occupied),
+            holdings: gathered(&self.holdings, self.occupied),
             rows: sets::size(self.occupied) as usize,
         }
     }
@@ -325,8 +256,7 @@ impl Roster {
     pub fn numbers(self) -> [u32; Policy::ROWS]
         ensures { result ≡ gathered_of self.occupied self.staff }
     {
-        let staff = self.staff;
-        gathered(&staff, self.occupied)
+        gathered(&self.staff, self.occupied)
     }
 }
 

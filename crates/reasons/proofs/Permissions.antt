@@ -1,6 +1,6 @@
 -- Which bit numbers are permissions. Assumes nothing.
-use Rattle.std.specs.Prelude.{◌≡◌, Bool, true, false, ◌⊎◌, ℕ, ◌≤◌, ◌<◌, ltb, Option, Some, None}
-use Rattle.std.proofs.Common.{inl, inr, arith, lt-ltb, ltb-true, ltb-false}
+use Rattle.std.specs.Prelude.{◌≡◌, true, false, ◌⊎◌, ℕ, ◌≤◌, ◌<◌, ltb, Option, Some, None}
+use Rattle.std.proofs.Common.{inl, inr, lt-ltb, ltb-true, ltb-false}
 use Rattle.sets.specs.Laws.Sums.{either}
 use Rattle.reasons.specs.Inner.{permission_of}
 
@@ -12,8 +12,8 @@ pub permission_some : (k p : ℕ) → Some p ≡ permission_of k → (p ≡ k) �
 permission_some k p e = go (either (ltb k 32))
   where
     go : (ltb k 32 ≡ true) ⊎ (ltb k 32 ≡ false) → (p ≡ k) × (k < 32)
-    go (inl y) = let q : Some p ≡ Some k = rw (y, permission_of) at e in (cc, ltb-true k 32 y)
-    go (inr z) = let q : Some p ≡ None {T = ℕ} = rw (z, permission_of) at e in cc
+    go (inl y) = let q : Some p ≡ Some k = rw (y, permission_of) at e in ((cc), ltb-true k 32 y)
+    go (inr z) = let q : ◌≡◌ {A = Option ℕ} (Some p) None = rw (z, permission_of) at e in cc
 
 pub permission_none : (k : ℕ) → None ≡ permission_of k → 32 ≤ k
 permission_none k e = go (either (ltb k 32))

@@ -8,7 +8,7 @@ use crate::plain::{Duty, PERMISSIONS, ROWS};
 use crate::question::AMPLE;
 use crate::shown::show_name;
 use crate::{compare, family, known, listed};
-use live::{Outcome, Roster, Told, Way};
+use live::{Objection, Roster, Told, Way};
 use roster::{Policy, Reply};
 use std::io;
 
@@ -103,10 +103,10 @@ fn told(roster: Roster, call: Call) -> Told {
 }
 
 // Whether this is the place, or the number of the refusal.
-fn is_answer(outcome: Outcome, place: usize, refused: u32) -> bool {
+fn is_answer(outcome: Result<usize, Objection>, place: usize, refused: u32) -> bool {
     match outcome {
-        Outcome::Done(at) => refused == 0 && at == place,
-        Outcome::Refused(objection) => objection.number() == refused,
+        Ok(at) => refused == 0 && at == place,
+        Err(objection) => objection.number() == refused,
     }
 }
 

@@ -1,6 +1,6 @@
 -- A loop that takes the members of a set out one by one, in some order, and stores what a function has at each, fills the table of the function
 -- along that order. The order is the set's own (`members`) for the table, and that of staff numbers where rows are given back. Assumes nothing.
-use Rattle.std.specs.Prelude.{◌≡◌, refl, ◌≢◌, List, [], ◌∷◌, map, ℕ, zero, suc, ◌+◌, ◌*◌, ◌%◌, ◌^◌, ◌≤◌, ◌<◌, length, get_or, drop, set, replicate}
+use Rattle.std.specs.Prelude.{◌≡◌, refl, ◌≢◌, List, [], ◌∷◌, map, ℕ, zero, suc, ◌+◌, ◌-◌, ◌*◌, ◌%◌, ◌^◌, ◌≤◌, ◌<◌, length, get_or, drop, set, replicate}
 use Rattle.std.proofs.Common.{sym, ap, ◌∙◌, add-one, arith, length-drop, drop-cons}
 use Rattle.std.proofs.Math.Decide.{dec_lt}
 use Rattle.std.specs.Int.Bits.{bit_xor}
@@ -91,16 +91,25 @@ module _ {A : Type 0} (d : A) (f : ℕ → A) (pick : ℕ → ℕ) (order : ℕ 
           come = rw add-one later;
         }
 
-  -- nothing is to come: the table of the function along the order
-  pub gathered_all : (k rest : ℕ) (next : List A) → Gathered k rest next → rest ≡ 0 → next ≡ tabulate 64 along
-  gathered_all k rest next g z = tabulated d 64 along next g.passed.long (λ i b. go i (dec_lt i k))
-    where
-      done : length (order all) ≤ k
-      done = omega (arith, length-drop k (order all), ap length g.come, way.many rest g.within, ap ones z, ones_none)
+  module _ (k rest : ℕ) (next : List A) (g : Gathered k rest next) where
+    left : length (order all) - k ≡ ones rest
+    left = sym (length-drop k (order all)) ∙ ap length g.come ∙ way.many rest g.within
 
-      go : (i : ℕ) → Dec (i < k) → get_or next i d ≡ along i
-      go i (yes l) = g.passed.passed i l
-      go i (no c) = g.passed.ahead i (omega arith) ∙ sym (map-past d f (order all) i (omega (arith, done)))
+    -- some are to come as long as fewer are stored than there are
+    pub some_come : k < ones all → rest ≢ 0
+    some_come l z = omega (arith, left, way.many all g.fits, ap ones z, ones_none)
+
+    -- as many are stored as there are: the table of the function along the order
+    pub gathered_full : ones all ≤ k → next ≡ tabulate 64 along
+    gathered_full l = tabulated d 64 along next g.passed.long (λ i b. go i (dec_lt i k))
+      where
+        go : (i : ℕ) → Dec (i < k) → get_or next i d ≡ along i
+        go i (yes b) = g.passed.passed i b
+        go i (no c) = g.passed.ahead i (omega arith) ∙ sym (map-past d f (order all) i (omega (arith, way.many all g.fits)))
+
+  -- nothing is to come: so too
+  pub gathered_all : (k rest : ℕ) (next : List A) → Gathered k rest next → rest ≡ 0 → next ≡ tabulate 64 along
+  gathered_all k rest next g z = gathered_full k rest next g (omega (arith, left k rest next g, way.many all g.fits, ap ones z, ones_none))
 
 -- ---- the set's own order
 

@@ -2,8 +2,7 @@
 -- which is decided, tells the other two reasons apart. Assumes nothing.
 use mathlib.Core.Path.{◌≡◌, sym, ap, ◌∙◌, subst}
 use Rattle.std.specs.Prelude.{None}
-use Prim.Native.Nat.{◌^◌, ◌≤◌, ◌<◌}
-use native.Mathlib.Omega.{arith}
+use Prim.Native.Nat.{◌^◌, ◌<◌}
 use borrow.Author.Rules.{rules}
 use Rattle.sets.specs.Sets.{below_within}
 use Rattle.roster.proofs.Laws.Rulings.{named_within}

@@ -7,6 +7,6 @@ use Rattle.live.proofs.Roster.changed.Goals as goal
 
 pub turned-requires : goal.turned-requires
 turned-requires c = let a = c.args in (
-  from_below (standing a.self.occupied a.self.staff a.number) 64 0 _ (sym c.place_of.ensures ∙ c.in-At.is),
+  from_below (standing a.self.occupied a.self.staff a.number) 64 0 _ (sym c.place_of.ensures ∙ c.in-Some.is),
   omega (arith, c.if-permission-gt31.false),
 )

@@ -8,16 +8,16 @@ use Rattle.live.proofs.Roster.leave.Goals as goal
 pub left-requires : goal.left-requires
 left-requires c = let a = c.args in
     from_below (standing a.self.occupied a.self.staff a.number) 64 0 _
-    (sym c.place_of.ensures ∙ c.in-At.is)
+    (sym c.place_of.ensures ∙ c.in-Some.is)
 
-pub returns-in-At : goal.returns-in-At
-returns-in-At c = let a = c.args in
-    let k = c.in-At.place in
+pub returns-in-Some : goal.returns-in-Some
+returns-in-Some c = let a = c.args in
+    let k = c.in-Some.place in
     c.done.ensures
     ∙ ap (done k) c.left.ensures
-    ∙ sym (leave_done a.self a.number k (sym c.place_of.ensures ∙ c.in-At.is))
+    ∙ sym (leave_done a.self a.number k (sym c.place_of.ensures ∙ c.in-Some.is))
 
-pub returns-in-Nowhere : goal.returns-in-Nowhere
-returns-in-Nowhere c = let a = c.args in
+pub returns-in-None : goal.returns-in-None
+returns-in-None c = let a = c.args in
     c.refusing.ensures
-    ∙ sym (leave_nobody a.self a.number (sym c.place_of.ensures ∙ c.in-Nowhere.is))
+    ∙ sym (leave_nobody a.self a.number (sym c.place_of.ensures ∙ c.in-None.is))
