@@ -1,43 +1,33 @@
 // What a line says, and what is answered.
 use crate::board::Board;
-use crate::words::Number;
 use crate::{books, said, words};
 use live::{Objection, Roster, Told, Way};
-use roster::{Policy, Reply};
+use roster::Policy;
 use std::rt::Files;
 
 // As much as the sheet allows.
 const ALLOWANCE: u32 = 1000000;
 
-// A list of permissions or of people as a set: of bits, or of rows of the roster's table. Something in it may not be there, or be no number.
+// The number of no permission, of which a roster says that there is no such permission.
+const NO_PERMISSION: u32 = 32;
+
+// What the items of a list are.
 #[derive(Clone, Copy)]
-enum Listed {
-    Set(u64),
+enum Items {
+    People,
+    Permissions,
+}
+
+// Why a list is no set of rows or of permissions: something in it is not there, or is no number.
+#[derive(Clone, Copy)]
+enum Unlisted {
     NoSuch,
     Not,
 }
 
-// Whether the line is this word, and so many behind it.
-fn is_line(text: &[u8], word: &[u8], behind: usize) -> bool {
-    if behind >= 10 {
-        return false;
-    }
-    words::has_words(text, behind + 1) && words::word(text, 0) == word
-}
-
-fn is_number(text: &[u8], which: usize) -> bool {
-    match words::number_of(words::word(text, which)) {
-        Number::Is(_) => true,
-        Number::Not => false,
-    }
-}
-
-// The number that the word is; 0 where it is none.
-fn value(text: &[u8], which: usize) -> u32 {
-    match words::number_of(words::word(text, which)) {
-        Number::Is(n) => n,
-        Number::Not => 0,
-    }
+// Whether the line is this word, with so many words in all.
+fn is_line(text: &[u8], word: &[u8], words: usize) -> bool {
+    words::has_words(text, words) && words::word(text, 0) == word
 }
 
 // ---- calls
@@ -57,57 +47,73 @@ fn called(rt: &impl Print, board: Board, told: Told) -> Board {
     board.with(told.roster).heard(is_heard)
 }
 
+// The permission with this code, by the number that a roster has for it.
+fn permission(board: Board, code: u32) -> u32 {
+    match board.bit(code) {
+        Some(bit) => bit as u32,
+        None => NO_PERMISSION,
+    }
+}
+
+// What the call comes to that the line is.
+fn call(board: Board, text: &[u8]) -> Option<Told> {
+    let roster = board.roster;
+    let number = words::number(text, 1)?;
+    if is_line(text, b"hire", 2) {
+        return Some(roster.hire(number));
+    }
+    if is_line(text, b"leave", 2) {
+        return Some(roster.leave(number));
+    }
+    let permission = permission(board, words::number(text, 2)?);
+    if is_line(text, b"grant", 3) {
+        return Some(roster.grant(number, permission));
+    }
+    if is_line(text, b"revoke", 3) {
+        return Some(roster.revoke(number, permission));
+    }
+    None
+}
+
 // A line is a call, or a question, which leaves the board as it is.
 pub(crate) fn answer(rt: &(impl Files + Print), board: Board, text: &[u8]) -> Board {
-    let roster = board.roster;
-    if is_line(text, b"hire", 1) && is_number(text, 1) {
-        return called(rt, board, roster.hire(value(text, 1)));
+    match call(board, text) {
+        Some(told) => called(rt, board, told),
+        None => board.heard(question(rt, board, text)),
     }
-    if is_line(text, b"leave", 1) && is_number(text, 1) {
-        return called(rt, board, roster.leave(value(text, 1)));
-    }
-    if is_line(text, b"grant", 2) && is_number(text, 1) && is_number(text, 2) {
-        return called(
-            rt,
-            board,
-            roster.grant(value(text, 1), board.bit(value(text, 2))),
-        );
-    }
-    if is_line(text, b"revoke", 2) && is_number(text, 1) && is_number(text, 2) {
-        return called(
-            rt,
-            board,
-            roster.revoke(value(text, 1), board.bit(value(text, 2))),
-        );
-    }
-    board.heard(question(rt, board, text))
 }
 
 // ---- questions
 
 fn question(rt: &(impl Files + Print), board: Board, text: &[u8]) -> bool {
-    if is_line(text, b"who", 1) && is_number(text, 1) {
-        return who(rt, board, board.bit(value(text, 1)));
+    if is_line(text, b"who", 2)
+        && let Some(code) = words::number(text, 1)
+    {
+        return who(rt, board, code);
     }
-    if is_asked(text, b"ask") && is_number(text, 2) {
-        return policy(rt, board, text, true);
+    if let Some(asked) = policy_of(text, b"ask")
+        && let Some(away) = words::number(text, 2)
+    {
+        return policy(rt, board, text, Policy { away, ..asked }, Way::Skipping);
     }
-    if is_asked(text, b"full") && is_number(text, 2) {
-        return policy(rt, board, text, false);
+    if let Some(asked) = policy_of(text, b"full")
+        && let Some(away) = words::number(text, 2)
+    {
+        return policy(rt, board, text, Policy { away, ..asked }, Way::Full);
     }
-    if is_asked(text, b"away") {
-        return away(rt, board, text);
+    if let Some(asked) = policy_of(text, b"away") {
+        return away(rt, board, text, asked);
     }
-    if is_line(text, b"show", 0) {
+    if is_line(text, b"show", 1) {
         return show(rt, board);
     }
-    if is_line(text, b"sheet", 0) {
+    if is_line(text, b"sheet", 1) {
         return books::sheet(rt, board);
     }
-    if is_line(text, b"write", 1) {
+    if is_line(text, b"write", 2) {
         return books::write(rt, board, words::word(text, 1));
     }
-    if is_line(text, b"help", 0) {
+    if is_line(text, b"help", 1) {
         return help(rt);
     }
     if words::has_words(text, 0) {
@@ -116,146 +122,104 @@ fn question(rt: &(impl Files + Print), board: Board, text: &[u8]) -> bool {
     not_understood(rt, text)
 }
 
-// Whether the line is this word with four behind it, of which the last two say how many crews and how many to a crew; a fifth may say the edition.
-fn is_asked(text: &[u8], word: &[u8]) -> bool {
-    let is_whole = is_line(text, word, 4) || (is_line(text, word, 5) && is_number(text, 5));
-    is_whole && is_number(text, 3) && is_number(text, 4)
-}
-
-// The edition, which is the first where none is said.
-fn edition(text: &[u8]) -> u32 {
-    if words::has_words(text, 6) {
-        value(text, 5)
-    } else {
+// The policy, of no task yet and nobody away, of a line that is this word with four behind it, of which the last two say how many crews and how many
+// to a crew; a fifth may say the edition, which is the first where none is said.
+fn policy_of(text: &[u8], word: &[u8]) -> Option<Policy> {
+    let edition = if is_line(text, word, 5) {
         1
-    }
-}
-
-// The policy with this task and so many away, and with the crews, their size and the edition that the line says.
-fn policy_of(task: u32, away: u32, text: &[u8]) -> Policy {
-    Policy {
-        task: task,
-        away: away,
-        crews: value(text, 3) as usize,
-        size: value(text, 4),
-        edition: edition(text),
-    }
+    } else if is_line(text, word, 6) {
+        words::number(text, 5)?
+    } else {
+        return None;
+    };
+    Some(Policy {
+        task: 0,
+        away: 0,
+        crews: words::number(text, 3)? as usize,
+        size: words::number(text, 4)?,
+        edition,
+    })
 }
 
 // Who holds a permission, in the order of their places.
-fn who(rt: &impl Print, board: Board, bit: u32) -> bool {
-    if bit > 31 {
+fn who(rt: &impl Print, board: Board, code: u32) -> bool {
+    let Some(bit) = board.bit(code) else {
         return said::objection(rt, Objection::Permission);
-    }
-    let roster = board.roster;
+    };
     said::text(rt, b"held by");
-    let staff = roster.staff;
-    said::people(rt, b' ', staff, roster.holders[bit as usize]);
+    said::people(rt, b' ', board.roster.staff, board.roster.holders[bit]);
     said::end(rt)
 }
 
-fn narrow(n: u64) -> u32 {
-    if n < 4294967296 { n as u32 } else { 0 }
+// Where the item stands in the set: somebody's row, or the bit of a permission.
+fn index(board: Board, item: &[u8], items: Items) -> Result<usize, Unlisted> {
+    let number = words::number_of(item).ok_or(Unlisted::Not)?;
+    let index = match items {
+        Items::People => board.row(number),
+        Items::Permissions => board.bit(number),
+    };
+    index.ok_or(Unlisted::NoSuch)
 }
 
-fn one(index: usize) -> u64 {
-    if index < 64 { 1u64 << index } else { 0 }
-}
-
-// Where somebody or a permission stands; as many as there can be, where it is not there.
-fn index(board: Board, n: u32, are_people: bool) -> usize {
-    if are_people {
-        return board.row(n);
-    }
-    let bit = board.bit(n);
-    if bit < 32 { bit as usize } else { 64 }
-}
-
-// The set with one item more.
-fn with_item(board: Board, set: u64, item: &[u8], are_people: bool) -> Listed {
-    match words::number_of(item) {
-        Number::Is(n) => {
-            let index = index(board, n, are_people);
-            if index < 64 {
-                Listed::Set(set | one(index))
-            } else {
-                Listed::NoSuch
-            }
-        }
-        Number::Not => Listed::Not,
-    }
-}
-
-// The items of a list, with commas between them; `-` is the empty list.
-fn list(board: Board, word: &[u8], are_people: bool) -> Listed {
+// The items of a list, with commas between them, as a set: of rows of the roster's table, or of bits; `-` is the empty list.
+fn list(board: Board, word: &[u8], items: Items) -> Result<u64, Unlisted> {
     let mut set: u64 = 0;
     if word == b"-".as_slice() {
-        return Listed::Set(set);
+        return Ok(set);
     }
-    let mut i: usize = 0;
-    while i < word.len() {
-        let item = words::item(word, i);
-        if item.len() == 0 {
-            return Listed::Set(set);
-        }
-        let more = with_item(board, set, item, are_people);
-        let Listed::Set(next) = more else {
-            return more;
+    for i in 0..word.len() {
+        let Some(item) = words::item(word, i) else {
+            break;
         };
-        set = next;
-        i += 1;
+        set |= 1u64 << index(board, item, items)?;
     }
-    Listed::Set(set)
+    Ok(set)
 }
 
 // The permissions of a task; all that there are, for short.
-fn task(board: Board, word: &[u8]) -> Listed {
+fn task(board: Board, word: &[u8]) -> Result<u32, Unlisted> {
     if word == b"all".as_slice() {
-        return Listed::Set(said::wide(board.permissions()));
+        return Ok(board.permissions());
     }
-    list(board, word, false)
+    let set = list(board, word, Items::Permissions)?;
+    u32::try_from(set).map_err(|_| Unlisted::NoSuch)
+}
+
+// Why a list is not taken: the objection is that of the roster where something in it is not there.
+fn not_listed(rt: &impl Print, text: &[u8], why: Unlisted, objection: Objection) -> bool {
+    match why {
+        Unlisted::NoSuch => said::objection(rt, objection),
+        Unlisted::Not => not_understood(rt, text),
+    }
 }
 
 // A policy, by either search.
-fn policy(rt: &impl Print, board: Board, text: &[u8], is_skipping: bool) -> bool {
+fn policy(rt: &impl Print, board: Board, text: &[u8], policy: Policy, way: Way) -> bool {
     match task(board, words::word(text, 1)) {
-        Listed::Set(set) => {
-            let roster = board.roster;
-            said::reply(rt, roster, asked(roster, narrow(set), text, is_skipping))
+        Ok(task) => {
+            let reply = live::ask(way, board.roster, Policy { task, ..policy }, ALLOWANCE);
+            said::reply(rt, board.roster, reply)
         }
-        Listed::NoSuch => said::objection(rt, Objection::Permission),
-        Listed::Not => not_understood(rt, text),
+        Err(why) => not_listed(rt, text, why, Objection::Permission),
     }
-}
-
-fn asked(roster: Roster, task: u32, text: &[u8], is_skipping: bool) -> Reply {
-    let policy = policy_of(task, value(text, 2), text);
-    let way = if is_skipping { Way::Skipping } else { Way::Full };
-    live::ask(way, roster, policy, ALLOWANCE)
 }
 
 // The crews that there are with these people away.
-fn away(rt: &impl Print, board: Board, text: &[u8]) -> bool {
-    match list(board, words::word(text, 1), true) {
-        Listed::Set(absent) => without(rt, board, absent, text),
-        Listed::NoSuch => said::objection(rt, Objection::Nobody),
-        Listed::Not => not_understood(rt, text),
+fn away(rt: &impl Print, board: Board, text: &[u8], policy: Policy) -> bool {
+    match list(board, words::word(text, 1), Items::People) {
+        Ok(absent) => without(rt, board, text, policy, absent),
+        Err(why) => not_listed(rt, text, why, Objection::Nobody),
     }
 }
 
-fn without(rt: &impl Print, board: Board, absent: u64, text: &[u8]) -> bool {
+fn without(rt: &impl Print, board: Board, text: &[u8], policy: Policy, absent: u64) -> bool {
     match task(board, words::word(text, 2)) {
-        Listed::Set(set) => {
-            let roster = board.roster;
-            let policy = policy_of(narrow(set), 0, text);
-            said::reply(
-                rt,
-                roster,
-                live::ask_named(roster, policy, absent, ALLOWANCE),
-            )
+        Ok(task) => {
+            let policy = Policy { task, ..policy };
+            let reply = live::ask_named(board.roster, policy, absent, ALLOWANCE);
+            said::reply(rt, board.roster, reply)
         }
-        Listed::NoSuch => said::objection(rt, Objection::Permission),
-        Listed::Not => not_understood(rt, text),
+        Err(why) => not_listed(rt, text, why, Objection::Permission),
     }
 }
 
@@ -267,18 +231,10 @@ fn show(rt: &impl Print, board: Board) -> bool {
     said::codes(rt, board, board.permissions());
     let mut is_heard = said::end(rt);
     let roster = board.roster;
-    let mut place: usize = 0;
-    while place < 64 {
+    for (place, number) in roster.staff.iter().enumerate() {
         if (roster.occupied >> place) & 1 == 1 {
-            is_heard = person(
-                rt,
-                board,
-                place,
-                roster.staff[place],
-                roster.holdings[place],
-            );
+            is_heard = person(rt, board, place, *number, roster.holdings[place]);
         }
-        place += 1;
     }
     is_heard
 }
@@ -288,49 +244,30 @@ fn person(rt: &impl Print, board: Board, place: usize, number: u32, held: u32) -
     said::text(rt, b"place");
     said::number(rt, b' ', place as u64);
     said::text(rt, b",");
-    said::number(rt, b' ', said::wide(number));
+    said::number(rt, b' ', u64::from(number));
     said::text(rt, b" holds");
     said::codes(rt, board, held);
     said::end(rt)
 }
 
-// A line that is a word known here says how that word goes on; any other, which words there are.
-fn not_understood(rt: &impl Print, text: &[u8]) -> bool {
-    let word = words::word(text, 0);
-    said::text(rt, b"not understood: ");
-    if word == b"hire".as_slice() || word == b"leave".as_slice() {
-        said::text(
-            rt,
-            b"a staff number goes with it, from 0 to 4294967295: hire 101\n",
-        )
-    } else if word == b"grant".as_slice() || word == b"revoke".as_slice() {
-        said::text(
-            rt,
-            b"a staff number and a permission go with it: grant 101 20\n",
-        )
-    } else if word == b"who".as_slice() {
-        said::text(rt, b"a permission goes with it: who 20\n")
-    } else if word == b"ask".as_slice() || word == b"full".as_slice() {
-        said::text(
-            rt,
+// How a word that is known here goes on; for any other, which words there are.
+fn words_behind(word: &[u8]) -> &'static [u8] {
+    match word {
+        b"hire" | b"leave" => b"a staff number goes with it, from 0 to 4294967295: hire 101\n",
+        b"grant" | b"revoke" => b"a staff number and a permission go with it: grant 101 20\n",
+        b"who" => b"a permission goes with it: who 20\n",
+        b"ask" | b"full" =>
             b"a task and three numbers go with it, how many away, crews, to a crew, and then an edition or none: ask 10,20 1 2 2\n",
-        )
-    } else if word == b"away".as_slice() {
-        said::text(
-            rt,
+        b"away" =>
             b"people, a task and two numbers go with it, crews, to a crew, and then an edition or none: away 101,104 10,20 2 2\n",
-        )
-    } else if word == b"write".as_slice() {
-        said::text(
-            rt,
-            b"the name of a new file goes with it, without blanks: write new.book\n",
-        )
-    } else {
-        said::text(
-            rt,
-            b"say hire, leave, grant, revoke, who, ask, full, away, show, sheet, write, or help\n",
-        )
+        b"write" => b"the name of a new file goes with it, without blanks: write new.book\n",
+        _ => b"say hire, leave, grant, revoke, who, ask, full, away, show, sheet, write, or help\n",
     }
+}
+
+fn not_understood(rt: &impl Print, text: &[u8]) -> bool {
+    said::text(rt, b"not understood: ");
+    said::text(rt, words_behind(words::word(text, 0)))
 }
 
 fn help(rt: &impl Print) -> bool {

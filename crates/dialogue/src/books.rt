@@ -27,7 +27,7 @@ fn lay_out(board: Board, out: &mut [u8]) -> Wrote {
 // Why there is no book; the codes and policies of a good book, and rows that a roster gives back, have one always.
 fn no_book(rt: &impl Print, why: u32) -> bool {
     said::text(rt, b"there is no such book:");
-    said::number(rt, b' ', said::wide(why));
+    said::number(rt, b' ', u64::from(why));
     said::end(rt)
 }
 

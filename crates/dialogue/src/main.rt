@@ -43,7 +43,7 @@ fn is_taken(rt: &impl Eprint, intake: Intake) -> bool {
         ),
         Intake::Refused(fault, place) => complain_of_book(
             rt,
-            said::wide(fault.number()),
+            u64::from(fault.number()),
             place as u64,
         ),
     }
@@ -105,21 +105,22 @@ fn beginning(rt: &(impl Files + Env + Eprint)) -> Start {
 }
 
 // A line's answer.
-fn answered(rt: &(impl Files + Print), board: Board, line: Line) -> Board {
-    if line.is_long {
-        return board.heard(said::text(rt, b"not understood: a line has at most 1000 characters\n"));
+fn answered(rt: &(impl Files + Print), board: Board, line: &Line) -> Board {
+    match line.text() {
+        Some(text) => asked::answer(rt, board, text),
+        None => board.heard(said::text(
+            rt,
+            b"not understood: a line has at most 1000 characters\n",
+        )),
     }
-    let bytes = line.bytes;
-    asked::answer(rt, board, words::part(&bytes, 0, line.length))
 }
 
 // Whether there is a next line, and somebody to hear its answer; if the input or the output has failed, it says so.
-fn goes_on(rt: &impl Eprint, board: Board, line: Line) -> bool {
+fn goes_on(rt: &impl Eprint, board: Board, ended: Ended) -> bool {
     if !board.is_heard {
         complain(rt, "the output cannot be written");
         return false;
     }
-    let ended = line.ended;
     match ended {
         Ended::Newline => true,
         Ended::Input => false,
@@ -131,24 +132,20 @@ fn goes_on(rt: &impl Eprint, board: Board, line: Line) -> bool {
 }
 
 // Answers line by line until the input ends. The count of turns is one that no run uses up.
-fn talk<R: Runtime>(rt: &R, begun: Board) {
+fn talk<R: Runtime>(rt: &R, mut board: Board) {
     let mut from = rt.reader();
-    let mut board = begun;
-    let mut turns = u64::MAX;
-    while turns > 0 {
-        let line = typed::next_line(&mut from);
-        board = answered(rt, board, line);
-        if !goes_on(rt, board, line) {
+    for _ in 0..u64::MAX {
+        let (line, ended) = typed::next_line(&mut from);
+        board = answered(rt, board, &line);
+        if !goes_on(rt, board, ended) {
             return;
         }
-        turns -= 1;
     }
 }
 
 fn main(rt: HostRuntime) {
     let start = beginning(&rt);
     if start.is_ready {
-        let board = start.board;
-        talk(&rt, board);
+        talk(&rt, start.board);
     }
 }

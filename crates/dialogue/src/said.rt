@@ -3,7 +3,8 @@ use crate::board::Board;
 use live::{Objection, Roster};
 use roster::{Policy, Refusal, Reply, Verdict};
 
-// Whether all of it could be written.
+// Whether all of it could be written. A `bool` and no `Result` for `?`: what follows a piece that could not be written is written all the same, and
+// the last piece of an answer tells whether it is heard.
 pub(crate) fn text(rt: &impl Print, bytes: &[u8]) -> bool {
     rt.write_all(bytes).is_ok()
 }
@@ -19,20 +20,14 @@ pub(crate) fn number(rt: &impl Print, mark: u8, n: u64) {
     let _ = rt.print(n);
 }
 
-pub(crate) fn wide(n: u32) -> u64 {
-    n as u64
-}
-
 // A mark, then the staff numbers of a set of rows, joined by commas; `-` for none.
 pub(crate) fn people(rt: &impl Print, mark: u8, numbers: [u32; Policy::ROWS], set: u64) {
     let mut before = mark;
-    let mut row: usize = 0;
-    while row < Policy::ROWS {
+    for (row, staff) in numbers.iter().enumerate() {
         if (set >> row) & 1 == 1 {
-            number(rt, before, wide(numbers[row]));
+            number(rt, before, u64::from(*staff));
             before = b',';
         }
-        row += 1;
     }
     if set == 0 {
         text(rt, &[mark, b'-']);
@@ -42,25 +37,21 @@ pub(crate) fn people(rt: &impl Print, mark: u8, numbers: [u32; Policy::ROWS], se
 // A space, then the crews, joined by slashes; `-` where the first is empty, as then all are.
 fn crews(rt: &impl Print, numbers: [u32; Policy::ROWS], crews: [u64; 8]) {
     people(rt, b' ', numbers, crews[0]);
-    let mut i: usize = 1;
-    while i < 8 {
-        if crews[i] != 0 {
-            people(rt, b'/', numbers, crews[i]);
+    for crew in &crews[1..] {
+        if *crew != 0 {
+            people(rt, b'/', numbers, *crew);
         }
-        i += 1;
     }
 }
 
 // A space, then the codes of a set of permissions, joined by commas; `-` for none.
 pub(crate) fn codes(rt: &impl Print, board: Board, set: u32) {
     let mut before = b' ';
-    let mut bit: usize = 0;
-    while bit < 32 {
+    for (bit, code) in board.values.codes.iter().enumerate() {
         if (set >> bit) & 1 == 1 {
-            number(rt, before, board.code(bit));
+            number(rt, before, u64::from(*code));
             before = b',';
         }
-        bit += 1;
     }
     if set == 0 {
         text(rt, b" -");
@@ -70,7 +61,7 @@ pub(crate) fn codes(rt: &impl Print, board: Board, set: u32) {
 // Why a call is not done, by number and in words.
 pub(crate) fn objection(rt: &impl Print, objection: Objection) -> bool {
     text(rt, b"refused");
-    number(rt, b' ', wide(objection.number()));
+    number(rt, b' ', u64::from(objection.number()));
     match objection {
         Objection::Permission => text(rt, b": there is no such permission\n"),
         Objection::Nobody => text(rt, b": there is nobody with this staff number\n"),
@@ -82,7 +73,7 @@ pub(crate) fn objection(rt: &impl Print, objection: Objection) -> bool {
 // Why a question is not answered.
 fn refusal(rt: &impl Print, refusal: Refusal) -> bool {
     text(rt, b"refused");
-    number(rt, b' ', wide(refusal.number()));
+    number(rt, b' ', u64::from(refusal.number()));
     match refusal {
         Refusal::Rows => text(rt, b": more than 64 rows\n"),
         Refusal::Task => text(rt, b": the task has no permission\n"),
@@ -108,16 +99,14 @@ fn verdict(rt: &impl Print, verdict: Verdict) -> bool {
 
 // A reply as the sheet has it: verdict, units, and the crews, or those without whom there are none.
 pub(crate) fn reply(rt: &impl Print, roster: Roster, reply: Reply) -> bool {
-    let told = reply.verdict;
-    if let Verdict::Refused(why) = told {
+    if let Verdict::Refused(why) = reply.verdict {
         return refusal(rt, why);
     }
-    verdict(rt, told);
-    number(rt, b' ', wide(reply.units));
+    verdict(rt, reply.verdict);
+    number(rt, b' ', u64::from(reply.units));
     let numbers = roster.numbers();
     if reply.blocker == 0 {
-        let list = reply.crews;
-        crews(rt, numbers, list);
+        crews(rt, numbers, reply.crews);
     } else {
         people(rt, b' ', numbers, reply.blocker);
     }

@@ -1,9 +1,0 @@
--- The loop ends: a turn for each that is left.
-use Rattle.std.proofs.Common.{◌-◌, ◌≤◌}
-use Rattle.dialogue.proofs.asked.show.Given as goal
-
-abbrev pub invariant-loop-place : goal.invariant-loop-place
-invariant-loop-place g l = l.place ≤ 64
-
-abbrev pub decreases-loop-place : goal.decreases-loop-place
-decreases-loop-place g l = 64 - l.place

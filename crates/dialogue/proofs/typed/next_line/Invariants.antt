@@ -1,8 +1,0 @@
--- The loop ends: a turn for each that is left.
-use Rattle.dialogue.proofs.typed.next_line.Given as goal
-
-abbrev pub invariant-loop-turns : goal.invariant-loop-turns
-invariant-loop-turns g l = Unit {0}
-
-abbrev pub decreases-loop-turns : goal.decreases-loop-turns
-decreases-loop-turns g l = l.turns

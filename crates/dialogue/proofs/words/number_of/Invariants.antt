@@ -1,9 +1,0 @@
--- The loop ends: a turn for each that is left.
-use Rattle.std.proofs.Common.{◌-◌, ◌≤◌, length}
-use Rattle.dialogue.proofs.words.number_of.Given as goal
-
-abbrev pub invariant-loop-i : goal.invariant-loop-i
-invariant-loop-i l = l.i ≤ length l.word
-
-abbrev pub decreases-loop-i : goal.decreases-loop-i
-decreases-loop-i l = length l.word - l.i
