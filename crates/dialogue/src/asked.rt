@@ -1,4 +1,6 @@
 // What a line says, and what is answered.
+ghost use Rattle.std.specs.Prelude.{◌<◌, IfOk};
+
 use crate::board::Board;
 use crate::{books, said, words};
 use live::{Objection, Roster, Told, Way};
@@ -152,7 +154,9 @@ fn who(rt: &impl Print, board: Board, code: u32) -> bool {
 }
 
 // Where the item stands in the set: somebody's row, or the bit of a permission.
-fn index(board: Board, item: &[u8], items: Items) -> Result<usize, Unlisted> {
+fn index(board: Board, item: &[u8], items: Items) -> Result<usize, Unlisted>
+    ensures { IfOk result (λ index. index < 64) }
+{
     let number = words::number_of(item).ok_or(Unlisted::Not)?;
     let index = match items {
         Items::People => board.row(number),

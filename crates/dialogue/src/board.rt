@@ -1,5 +1,7 @@
 // What is on the table of whoever speaks: the live roster, and the values of the book that it came from, whose codes name the permissions and whose
 // policies can be asked. Without a book the permissions are called 0 to 31, and there is no policy.
+ghost use Rattle.std.specs.Prelude.{◌<◌, IfSome};
+
 use live::Roster;
 use values::Values;
 
@@ -44,7 +46,9 @@ impl Board {
     }
 
     // The permission with this code, by its bit.
-    pub(crate) fn bit(self, code: u32) -> Option<usize> {
+    pub(crate) fn bit(self, code: u32) -> Option<usize>
+        ensures { IfSome result (λ bit. bit < 32) }
+    {
         self.values
             .codes
             .iter()
@@ -63,7 +67,9 @@ impl Board {
     }
 
     // The row of the roster's table that this staff number has.
-    pub(crate) fn row(self, number: u32) -> Option<usize> {
+    pub(crate) fn row(self, number: u32) -> Option<usize>
+        ensures { IfSome result (λ row. row < 64) }
+    {
         let numbers = self.roster.numbers();
         numbers
             .iter()
