@@ -4,6 +4,8 @@
 
 ghost use Rattle.std.specs.Prelude.{◌≡◌, ◌-◌, ◌^◌, min};
 ghost use Rattle.std.specs.Int.Count.{ones, count_trailing_zeros};
+ghost use Rattle.std.specs.Iterator.{YieldsFirst, item_count};
+ghost use Rattle.sets.specs.Members.{members};
 
 // How many members the set has.
 pub fn size(set: u64) -> u32
@@ -34,4 +36,36 @@ pub fn below(n: usize) -> u64
         return !0u64;
     }
     (1u64 << n) - 1
+}
+
+// The members of a set, the least first: what is left of them.
+#[derive(Clone, Copy)]
+pub struct Members {
+    pub left: u64,
+}
+
+impl Members {
+    // All members of the set.
+    pub fn of(set: u64) -> Members
+        ensures { result.left ≡ set }
+    {
+        Members { left: set }
+    }
+}
+
+impl Iterator for Members {
+    type Item = usize;
+
+    ghost next_gives = { YieldsFirst (λ s. members 0 64 s.left) };
+
+    ghost remaining = { item_count (λ s. members 0 64 s.left) };
+
+    fn next(&mut self) -> Option<usize> {
+        if self.left == 0 {
+            return None;
+        }
+        let first = self.left.trailing_zeros();
+        self.left ^= 1u64 << first;
+        Some(first as usize)
+    }
 }
