@@ -8,32 +8,31 @@ use lib.Bits.{bit_xor}
 use lib.Count.{count_trailing_zeros}
 use lib.ListN.{length, get_or, drop, drop_of_length-le}
 use lib.Seq.{drop-cons}
+use Rattle.sets.specs.Members.{members}
 use Rattle.sets.proofs.Laws.Members.{members-empty, members-least}
 use Rattle.text.specs.Text.{decimal, marked, joined}
 use Rattle.lines.specs.Lines.{names, between_members, set_text, filled, between_crews}
 
 -- ---- members
 
-pub names-none : (numbers : List ℕ) → names numbers 0 ≡ []
-unfolding names
-names-none numbers = ap (map (λ row. decimal (get_or numbers row 0))) (members-empty 64)
-
 names_next : (numbers : List ℕ) (set : ℕ) → set < 2 ^ 64 → set ≢ 0
     → names numbers set ≡ decimal (get_or numbers (count_trailing_zeros 64 set) 0) ∷ names numbers (bit_xor set (2 ^ count_trailing_zeros 64 set))
 unfolding names
 names_next numbers set h n = ap (map (λ row. decimal (get_or numbers row 0))) (members-least 64 set h n)
 
--- the least member after its mark, then the others
-pub member_next : (numbers : List ℕ) (mark set row : ℕ) → set < 2 ^ 64 → set ≢ 0 → row ≡ count_trailing_zeros 64 set
-    → marked mark between_members (names numbers set) ≡ (mark ∷ decimal (get_or numbers row 0)) ++ marked between_members between_members (names numbers (bit_xor set (2 ^ row)))
-unfolding marked
-member_next numbers mark set row h n e =
-    ap (marked mark between_members) (names_next numbers set h n)
-    ∙ ap (λ (u : ℕ). (mark ∷ decimal (get_or numbers u 0)) ++ marked between_members between_members (names numbers (bit_xor set (2 ^ u)))) (sym e)
+pub names-none : (numbers : List ℕ) → names numbers 0 ≡ []
+unfolding names
+names-none numbers = ap (map (λ row. decimal (get_or numbers row 0))) (members-empty 64)
 
-pub member_last : (numbers : List ℕ) (mark : ℕ) → marked mark between_members (names numbers 0) ≡ []
-unfolding marked
-member_last numbers mark = ap (marked mark between_members) (names-none numbers)
+-- the first member after its mark, then the others; nothing where there is none
+pub member_next : (numbers : List ℕ) (mark set row left : ℕ) → members 0 64 set ≡ row ∷ members 0 64 left
+    → marked mark between_members (names numbers set) ≡ (mark ∷ decimal (get_or numbers row 0)) ++ marked between_members between_members (names numbers left)
+unfolding names marked
+member_next numbers mark set row left e = ap (λ (l : List ℕ). marked mark between_members (map (λ person. decimal (get_or numbers person 0)) l)) e
+
+pub member_last : (numbers : List ℕ) (mark set : ℕ) → members 0 64 set ≡ [] → marked mark between_members (names numbers set) ≡ []
+unfolding names marked
+member_last numbers mark set e = ap (λ (l : List ℕ). marked mark between_members (map (λ person. decimal (get_or numbers person 0)) l)) e
 
 -- ---- a mark and then the joined list is the list that begins with the mark
 

@@ -1,11 +1,11 @@
 // The last field of a line: sets of persons by their numbers. Each function appends what its definition in specs/Lines.antt says.
 ghost use Rattle.std.specs.Prelude.{◌≡◌, [], ◌∷◌, map, ◌<◌, ◌^◌, length, get_or};
-ghost use Rattle.std.specs.Int.Bits.{bit_xor};
 ghost use Rattle.roster.specs.Limits.{row_limit, crew_limit};
 ghost use Rattle.text.specs.Text.{Appended, space, dash, decimal, marked};
 ghost use Rattle.lines.specs.Lines.{names, between_members, set_text, filled, between_crews, crews_text, sets_text};
 
 use roster::{Policy, Reply, Verdict};
+use sets::Members;
 
 // A person's number after a mark.
 fn member(out: &mut [u8], at: usize, numbers: &[u32; Policy::ROWS], mark: u8, row: usize) -> usize
@@ -15,26 +15,15 @@ fn member(out: &mut [u8], at: usize, numbers: &[u32; Policy::ROWS], mark: u8, ro
     text::number(out, at, mark, text::wide(numbers[row]))
 }
 
-// A set without this row of it.
-fn without(set: u64, row: u32) -> u64
-    requires { row < 64 }
-    ensures { result ≡ bit_xor set (2 ^ row) }
-{
-    set ^ (1u64 << row)
-}
-
 // The numbers of a set's persons in their order, the first after `mark`, the others after commas; nothing of an empty set.
 fn members(out: &mut [u8], at: usize, numbers: &[u32; Policy::ROWS], mark: u8, set: u64) -> usize
     ensures { Appended (marked mark between_members (names numbers.now set)) out.old at out.new result }
 {
     let mut next = at;
     let mut before = mark;
-    let mut left = set;
-    while left != 0 {
-        let row = sets::least(left);
-        next = member(out, next, numbers, before, row as usize);
+    for row in Members::of(set) {
+        next = member(out, next, numbers, before, row);
         before = b',';
-        left = without(left, row);
     }
     next
 }

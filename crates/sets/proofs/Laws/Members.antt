@@ -152,6 +152,10 @@ within w a b i e l =
 pub members-same : (w a b : ℕ) → a < 2 ^ w → b < 2 ^ w → members 0 w a ≡ members 0 w b → a ≡ b
 members-same w a b ha hb e = ext w a b ha hb (λ i l. omega (arith, within w a b i e l, within w b a i (sym e) l))
 
+-- the first of the list is a member
+pub members-first : (w m x : ℕ) (l : List ℕ) → members 0 w m ≡ x ∷ l → (x < w) × Has m x
+members-first w m x l e = has_of_mem w m x (subst (λ (k : List ℕ). Memᴰ x k) (sym e) (Memᴰ.head refl))
+
 -- so an empty list is that of no member, and a list's head and tail are the least member and the set without it
 pub members-none_left : (w m : ℕ) → m < 2 ^ w → members 0 w m ≡ [] → m ≡ 0
 members-none_left w m h e = members-same w m 0 h (omega arith) (e ∙ sym (members-empty w))
