@@ -1,10 +1,11 @@
 -- `go_on` and the loop of `try_each`, apart from their code. A placement: nothing comes of one that fills a crew that cannot be closed, and from
 -- any other filling goes on. The loop: what is still to be tried is `rest`, and trying it at `units` gives what the whole search gives at
 -- `spent`; each way through a turn keeps that or ends with the answer. Assumes nothing.
-use mathlib.Core.Path.{◌≡◌, sym, ap, ap₂, ◌∙◌}
+use mathlib.Core.Path.{◌≡◌, refl, sym, ap, ap₂, ◌∙◌}
 use mathlib.Core.Logic.{⊎_elim, ◌≢◌}
 use mathlib.Core.Bool.{true, false}
-use mathlib.Core.List.{List, ◌∷◌}
+use mathlib.Core.List.Memᴰ
+use mathlib.Core.List.{List, [], ◌∷◌, Memᴰ}
 use Prim.Native.Nat.{ℕ, suc, ◌+◌, ◌-◌, ◌*◌, ◌%◌, ◌^◌, ◌≤◌, ◌<◌}
 use native.Mathlib.Omega.{arith}
 use lib.Bits.{bit_xor}
@@ -15,7 +16,7 @@ use Rattle.sets.proofs.Sets.{ones_none}
 use Rattle.sets.specs.Members.{members}
 use Rattle.sets.specs.Laws.Sums.{either}
 use Rattle.sets.proofs.Laws.Drop.{drop-sub, drop_lt, ones-drop}
-use Rattle.sets.proofs.Laws.Members.{members-empty, members-least}
+use Rattle.sets.proofs.Laws.Members.{has_of_mem, members-first}
 use Rattle.roster.specs.Limits.{crew_limit}
 use Rattle.roster.specs.Replies.{no_crews}
 use Rattle.crews.specs.declared.Filling.{Filling}
@@ -162,23 +163,23 @@ pub record Going (a : Asked) (rest units : ℕ) : Type 0 where
   pub few : a.crews ≤ crew_limit
   pub unfinished : a.state.closed < a.crews
   pub room : HasRoom a.size a.state
-  pub wide : rest < 2 ^ 64
-  pub own : Sub rest a.state.free
+  pub own : (i : ℕ) → Memᴰ i (members 0 64 rest) → Has a.state.free i
   pub within : units ≤ a.allowance
   pub same : answer a ≡ filled_of a.allowance units (trying a (members 0 64 rest))
 
 pub begun : (a : Asked) (placed : Filling) {rest : ℕ} → a.state ≡ closed_where a.task a.least placed
-    → Ready a.task a.crews a.size a.least placed a.spent a.allowance → rest ≡ all a → rest < 2 ^ 64 → a.state.closed ≢ a.crews
+    → Ready a.task a.crews a.size a.least placed a.spent a.allowance → rest ≡ all a → a.state.closed ≢ a.crews
     → Going a rest a.spent
-begun a placed es r e w n =
+begun a placed es r e n =
     record {
       few = r.few;
       unfinished = omega (arith, ap (λ (f : Filling). f.closed) es, r.closed, n);
       room = room;
-      wide = w;
-      own = λ i.
+      own = λ i m.
           omega (
             arith,
+            (has_of_mem 64 _ i m).1,
+            bit_le a.state.free i,
             ap (λ (x : ℕ). bit x i) e,
             step.eligible_in a.state (holding a) i,
             pool_in (at a.holders) (missing_of a.task a.state) a.state.free i,
@@ -194,45 +195,28 @@ begun a placed es r e w n =
     room = rw es (r.room (λ z. n (ap (λ (f : Filling). f.closed) es ∙ z)))
 
 module _ {a : Asked} {rest units : ℕ} (g : Going a rest units) where
-  pub ended : rest ≡ 0 → record { ending = Exhausted; crews = no_crews; units = units } ≡ answer a
+  pub ended : members 0 64 rest ≡ [] → record { ending = Exhausted; crews = no_crews; units = units } ≡ answer a
   ended z =
       step.says_exhausted a.allowance units (trying a (members 0 64 rest))
-      (ap (trying a) (ap (members 0 64) z ∙ members-empty 64) ∙ step.try_none (deeper a) (rule a) a.state) g.within
+      (ap (trying a) z ∙ step.try_none (deeper a) (rule a) a.state) g.within
       ∙ sym g.same
 
-  -- a candidate's turn
-  module _ {row : ℕ} (er : row ≡ count_trailing_zeros 64 rest) (some : rest ≢ 0) where
-    least : Least 64 rest row
-    least = rw er (trailing_least 64 rest g.wide (omega arith))
-
+  -- a candidate's turn: it is the first of those to come
+  module _ (row left : ℕ) (come : members 0 64 rest ≡ row ∷ members 0 64 left) where
     pub row_below : row < 64
-    row_below = least.below
+    row_below = (members-first 64 rest row _ come).0
 
     pub row_free : Has a.state.free row
-    row_free = omega (arith, g.own row, least.has, bit_le a.state.free row)
+    row_free = g.own row (rw come (Memᴰ.head refl))
 
     pub some_free : 0 < ones a.state.free
     some_free = omega (arith, ones-drop a.state.free row row_free)
 
-    -- what the code takes out of the set
-    abbrev bit_of : ℕ
-    bit_of = (1 * 2 ^ row) % 2 ^ 64
-
-    shifted : bit_of ≡ 2 ^ row
-    shifted = shl_one 64 row row_below
-
-    -- one candidate fewer
-    pub rest_falls : ones (bit_xor rest bit_of) < ones rest
-    rest_falls = rw shifted (omega (arith, ones-drop rest row least.has))
-
     abbrev others : List ℕ
-    others = members 0 64 (bit_xor rest (2 ^ row))
+    others = members 0 64 left
 
     first : answer a ≡ filled_of a.allowance units (trying a (row ∷ others))
-    first =
-        g.same
-        ∙ ap (λ (l : List ℕ). filled_of a.allowance units (trying a l))
-        (members-least 64 rest g.wide some ∙ ap (λ (x : ℕ). x ∷ members 0 64 (bit_xor rest (2 ^ x))) (sym er))
+    first = g.same ∙ ap (λ (l : List ℕ). filled_of a.allowance units (trying a l)) come
 
     pub spent_out : a.allowance ≤ units → record { ending = Undecided; crews = no_crews; units = a.allowance } ≡ answer a
     spent_out l = step.turn_spent (deeper a) (rule a) a.state row others a.allowance units g.within l ∙ sym first
@@ -242,19 +226,17 @@ module _ {a : Asked} {rest units : ℕ} (g : Going a rest units) where
       pub ended_here : r.ending ≢ Exhausted → r ≡ answer a
       ended_here v = step.turn-ended (deeper a) (rule a) a.state row others a.allowance units r said v ∙ sym first
 
-      pub exhausted_here : r.ending ≡ Exhausted → Going a (bit_xor rest bit_of) r.units
+      pub exhausted_here : r.ending ≡ Exhausted → Going a left r.units
       exhausted_here v =
           let t = step.turn_exhausted (deeper a) (rule a) a.state row others a.allowance units r said v in
-          rw shifted
-          (record {
+          record {
             few = g.few;
             unfinished = g.unfinished;
             room = g.room;
-            wide = drop_lt 64 rest row g.wide least.has;
-            own = λ i. omega (arith, drop-sub rest row least.has i, g.own i);
+            own = λ i m. g.own i (rw come (Memᴰ.tail m));
             within = t.1;
             same = first ∙ t.0;
-          })
+          }
 
     -- it can be placed
     pub placing : units < a.allowance → Placing a.crews a.size a.state row (units + 1) a.allowance

@@ -17,6 +17,7 @@ ghost use Rattle.crews.specs.declared.Ending.TheVariants.{Complete};
 ghost use Rattle.crews.specs.Named.{NamedReplyFor};
 
 use roster::{Policy, Reply, Table};
+use sets::Members;
 
 // The half-filled crews: those closed, the one being filled, the rows neither absent nor placed, what the crew being filled holds, and the
 // lowest row that may begin the next crew. The crew being filled is a field of its own because it changes with each row: written into the
@@ -237,14 +238,12 @@ fn try_each(
     if f.closed == crews {
         return f.complete(spent);
     }
-    let mut rest = f.eligible(candidates(holders, missing(task, f.held), f.free));
+    let wanted = f.eligible(candidates(holders, missing(task, f.held), f.free));
     let mut units = spent;
-    while rest != 0 {
+    for row in Members::of(wanted) {
         if units >= allowance {
             return Filled::without_crews(Ending::Undecided, allowance);
         }
-        let row = sets::least(rest) as usize;
-        rest = rest ^ (1u64 << row);
         let filled = go_on(
             holds,
             holders,
@@ -257,8 +256,7 @@ fn try_each(
             units + 1,
             allowance,
         );
-        let ending = filled.ending;
-        let Ending::Exhausted = ending else {
+        let Ending::Exhausted = filled.ending else {
             return filled;
         };
         units = filled.units;

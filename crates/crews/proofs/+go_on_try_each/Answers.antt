@@ -1,11 +1,12 @@
 -- A placement is one call of `go_on`: stuck, or on to `try_each`, by the laws of a placement in Turns. In `try_each` the return before the
 -- loop is `search-done`, and each turn ends by a law of Turns. Assumes nothing.
-use mathlib.Core.Path.{refl, sym, ap, ◌∙◌}
+use mathlib.Core.Path.{◌≡◌, sym, ap, ◌∙◌}
 use mathlib.Core.List.{List}
 use Prim.Native.Nat.{ℕ}
 use native.Mathlib.Omega.{arith}
-use lib.Count.{ones, count_trailing_zeros}
+use lib.Count.{ones}
 use Rattle.sets.specs.Arrays.{at}
+use Rattle.sets.specs.declared.Members.{Members}
 use Rattle.crews.specs.declared.Filling.{Filling}
 use Rattle.crews.specs.Filling.{pool_of}
 use Rattle.crews.specs.Inner.Placing.{eligible_of}
@@ -66,50 +67,50 @@ try_each-returns-then-f-crews t c =
     ∙ step.says_complete a.allowance a.spent a.state.crews _ (search-done (turn.rule a) a.state _ c.if-f-crews.true) c.requires.within
     ∙ turn.settled_answer a s.placed c.settled-f.ensures
 
-pub try_each-loop-rest-init : goal.try_each-loop-rest-init
-try_each-loop-rest-init t c =
+pub try_each-loop-row-init : goal.try_each-loop-row-init
+try_each-loop-row-init t c =
     let s = c.args in
     let a = asked s.holds.now s.holders.now s.task s.crews s.size s.least c.settled-f.result s.spent s.allowance in
+    let all_left : c.into_iter-row-iterator.result.left ≡ c.eligible-wanted.result =
+    ap (λ (m : Members). m.left) c.into_iter-row-iterator.ensures.into_iter_gives ∙ c.of-row-items.ensures in
     turn.begun a s.placed c.settled-f.ensures c.requires
-    (c.eligible-rest.ensures
+    (all_left
+    ∙ c.eligible-wanted.ensures
     ∙ ap (eligible_of a.state)
     (c.candidates.ensures ∙ ap (λ (m : ℕ). pool_of (at a.holders) m a.state.free) c.missing.ensures))
-    c.eligible-rest.type_inv c.if-f-crews.false
+    c.if-f-crews.false
 
 pub try_each-returns-then-units-allowance : goal.try_each-returns-then-units-allowance
 try_each-returns-then-units-allowance t c =
     let s = c.args in
     let a = asked s.holds.now s.holders.now s.task s.crews s.size s.least c.settled-f.result s.spent s.allowance in
     c.without_crews.ensures
-    ∙ turn.spent_out c.loop-rest.invariant {row = count_trailing_zeros 64 c.loop-rest.rest} refl c.loop-rest-test.true
+    ∙ turn.spent_out c.loop-row.invariant _ _ c.in-Some.ensures.steps
     (omega (arith, c.if-units-allowance.true))
     ∙ turn.settled_answer a s.placed c.settled-f.ensures
 
 pub try_each-go_on-filled-requires : goal.try_each-go_on-filled-requires
 try_each-go_on-filled-requires t c =
     let s = c.args in
-    let g = c.loop-rest.invariant in
+    let g = c.loop-row.invariant in
     let same = ap (λ (f : Filling). ones f.free) c.settled-f.ensures ∙ ap ones (step.closed_free s.task s.least s.placed) in (
-      omega (arith, turn.some_free g c.least-row.ensures c.loop-rest-test.true, same, c.decreases),
-      turn.placing g c.least-row.ensures c.loop-rest-test.true c.if-units-allowance.false,
+      omega (arith, turn.some_free g _ _ c.in-Some.ensures.steps, same, c.decreases),
+      turn.placing g _ _ c.in-Some.ensures.steps c.if-units-allowance.false,
     )
 
 pub try_each-returns-in_default : goal.try_each-returns-in_default
 try_each-returns-in_default t c =
     let s = c.args in
     let a = asked s.holds.now s.holders.now s.task s.crews s.size s.least c.settled-f.result s.spent s.allowance in
-    turn.ended_here c.loop-rest.invariant c.least-row.ensures c.loop-rest-test.true c.go_on-filled.ensures c.in_default.not-Exhausted
+    turn.ended_here c.loop-row.invariant _ _ c.in-Some.ensures.steps c.go_on-filled.ensures c.in_default.not-Exhausted
     ∙ turn.settled_answer a s.placed c.settled-f.ensures
 
-pub try_each-loop-rest-smaller : goal.try_each-loop-rest-smaller
-try_each-loop-rest-smaller t c = turn.rest_falls c.loop-rest.invariant c.least-row.ensures c.loop-rest-test.true
-
-pub try_each-loop-rest-preserved : goal.try_each-loop-rest-preserved
-try_each-loop-rest-preserved t c =
-    turn.exhausted_here c.loop-rest.invariant c.least-row.ensures c.loop-rest-test.true c.go_on-filled.ensures c.in-Exhausted.is
+pub try_each-loop-row-preserved : goal.try_each-loop-row-preserved
+try_each-loop-row-preserved t c =
+    turn.exhausted_here c.loop-row.invariant _ _ c.in-Some.ensures.steps c.go_on-filled.ensures c.in-Exhausted.is
 
 pub try_each-returns : goal.try_each-returns
 try_each-returns t c =
     let s = c.args in
     let a = asked s.holds.now s.holders.now s.task s.crews s.size s.least c.settled-f.result s.spent s.allowance in
-    c.without_crews-2.ensures ∙ turn.ended c.loop-rest.invariant c.loop-rest-test.false ∙ turn.settled_answer a s.placed c.settled-f.ensures
+    c.without_crews-2.ensures ∙ turn.ended c.loop-row.invariant c.in-None.ensures.steps.0 ∙ turn.settled_answer a s.placed c.settled-f.ensures

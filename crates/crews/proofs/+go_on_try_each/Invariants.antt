@@ -11,8 +11,8 @@ decreases-go_on l = 2 * ones l.before.free - 1
 abbrev pub decreases-try_each : goal.decreases-try_each
 decreases-try_each l = 2 * ones l.placed.free
 
-abbrev pub invariant-try_each-loop-rest : goal.invariant-try_each-loop-rest
-invariant-try_each-loop-rest l =
+abbrev pub invariant-try_each-loop-row : goal.invariant-try_each-loop-row
+invariant-try_each-loop-row l =
     turn.Going
     (record {
       holds = l.holds;
@@ -25,8 +25,5 @@ invariant-try_each-loop-rest l =
       spent = l.spent;
       allowance = l.allowance;
     })
-    l.rest
+    l.row-iterator.left
     l.units
-
-abbrev pub decreases-try_each-loop-rest : goal.decreases-try_each-loop-rest
-decreases-try_each-loop-rest l = ones l.rest
