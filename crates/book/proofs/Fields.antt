@@ -1,5 +1,6 @@
 -- Where the fields of an entry start, and the first of them that is not whole. Assumes nothing.
-use mathlib.Core.Path.{◌≡◌, refl, sym, ap, ◌∙◌}
+use Rattle.std.specs.Prelude.{Result, Err}
+use mathlib.Core.Path.{◌≡◌, refl, sym, ap, subst, ◌∙◌}
 use mathlib.Core.Bool.{Bool, true, false}
 use mathlib.Core.List.{List, [], ◌∷◌}
 use Prim.Native.Nat.{ℕ, zero, suc, ◌+◌, ◌*◌, ◌≤◌, ◌<◌}
@@ -11,12 +12,10 @@ use borrow.Author.Tests.{ltb-true, lt-ltb, le-ltb}
 use Rattle.roster.specs.declared.Refusal.{Refusal}
 use Rattle.roster.specs.declared.Refusal.TheVariants as refusal
 use Rattle.book.specs.Layout.{row_widths, policy_widths, form_has_persons}
-use Rattle.book.specs.Reading.{total, field_place, cut_place, amiss_if, fault_if, row_amiss, holdings_field, field_of, rows_of, width}
+use Rattle.book.specs.Reading.{total, field_place, cut_place, row_amiss, field_of, rows_of, width}
 use Rattle.book.specs.declared.Form.{Form}
 use Rattle.book.specs.declared.Form.TheVariants.{Old, Persons, Editions}
-use Rattle.book.specs.declared.Fault.{Fault}
-use Rattle.book.specs.declared.Amiss.TheVariants.{Nothing, Field}
-use Rattle.book.specs.declared.Look.TheVariants.{Sound, Faulty}
+use Rattle.book.specs.declared.Amiss.{Amiss}
 
 -- the answer that something is cut
 pub was_cut : {b : Bool} (len at wide : ℕ) → b ≡ ltb len (at + wide) → b ≡ true → len < at + wide
@@ -65,14 +64,20 @@ pub policy_cut : (editions : Bool) (len at : ℕ) → at + 4 ≤ len → len < a
 policy_cut false len at h k = sym (cut_next 4 (bytewide 3) len at h ∙ bytes_cut 3 len (at + 4) h (omega arith))
 policy_cut true len at h k = sym (cut_next 4 (bytewide 4) len at h ∙ bytes_cut 4 len (at + 4) h (omega arith))
 
+same_amiss : {y x : Amiss} → ◌≡◌ {A = Result Unit Amiss} (Err y) (Err x) → y ≡ x
+same_amiss e = cc
+
 -- each field of a row is four bytes
-pub row_field : (persons low beyond : Bool) (at : ℕ) {f : Fault} {k : ℕ} → row_amiss persons low beyond ≡ Field f k
-    → (k ≤ 2) × (at + 4 * k ≡ field_place (row_widths persons) at k)
-row_field false true beyond at {k = k} e = let same : k ≡ 0 = cc in rw same (omega arith, omega arith)
-row_field true true beyond at {k = k} e = let same : k ≡ 0 = cc in rw same (omega arith, omega arith)
-row_field false false true at {k = k} e = let same : k ≡ holdings_field false = cc in rw same (omega arith, omega arith)
-row_field true false true at {k = k} e = let same : k ≡ holdings_field true = cc in rw same (omega arith, omega arith)
-row_field persons false false at e = let z : ◌≡◌ {A = ℕ} 0 1 = cc in absurd (omega arith)
+abbrev pub InRow : Bool → ℕ → Amiss → Type 0
+InRow persons at x = (x.field ≤ 2) × (at + 4 * x.field ≡ field_place (row_widths persons) at x.field)
+
+pub row_field : (persons low beyond : Bool) (at : ℕ) {x : Amiss} → row_amiss persons low beyond ≡ Err x
+    → InRow persons at x
+row_field false true beyond at e = subst (InRow false at) (same_amiss e) (omega arith, omega arith)
+row_field true true beyond at e = subst (InRow true at) (same_amiss e) (omega arith, omega arith)
+row_field false false true at e = subst (InRow false at) (same_amiss e) (omega arith, omega arith)
+row_field true false true at e = subst (InRow true at) (same_amiss e) (omega arith, omega arith)
+row_field persons false false at e = cc
 
 -- a field of a policy, from the policy's place on, in every form
 pub policy_field : (editions : Bool) (r : Refusal) (at : ℕ)
@@ -85,8 +90,3 @@ policy_field editions refusal.Size at = (omega arith, omega arith)
 policy_field editions refusal.Absence at = (omega arith, omega arith)
 policy_field false refusal.Edition at = (omega arith, omega arith)
 policy_field true refusal.Edition at = (omega arith, omega arith)
-
--- a count is one field
-pub count_faulty : (b : Bool) (g : Fault) (at : ℕ) {f : Fault} {k : ℕ} → amiss_if b g 0 Nothing ≡ Field f k → Faulty f at ≡ fault_if b g at Sound
-count_faulty true g at {f} e = let same : f ≡ g = cc in ap (λ (x : Fault). Faulty x at) same
-count_faulty false g at e = let z : ◌≡◌ {A = ℕ} 0 1 = cc in absurd (omega arith)

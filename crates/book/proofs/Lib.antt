@@ -2,5 +2,4 @@ pub mod Numbers
 pub mod Looks
 pub mod Fields
 pub mod Places
-pub mod Walks
 pub mod Laws

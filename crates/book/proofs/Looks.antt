@@ -1,7 +1,7 @@
 -- Laws of the looks and of the first fault. Assumes nothing.
+use Rattle.std.specs.Prelude.{Option, Some, None, Result, Ok, Err}
 use mathlib.Core.Path.{◌≡◌, refl, sym, ap, ◌∙◌}
 use mathlib.Core.Bool.{Bool, false}
-use mathlib.Core.Option.{Option, some}
 use mathlib.Core.List.{List, [], ◌∷◌, ◌++◌}
 use Prim.Native.Nat.{ℕ, zero, suc, ◌+◌, ◌-◌, ◌*◌, ◌≤◌, ◌<◌}
 use native.Mathlib.Nat.{mul-suc}
@@ -9,24 +9,23 @@ use native.Mathlib.Omega.{arith}
 use lib.Dec.{leb, ltb}
 use lib.ListN.{length}
 use borrow.Author.Tests.{ltb-false, lt-ltb, le-ltb}
-use Rattle.book.specs.Reading.{number, fields_at, entry_at, prior, not_above, staff_of, fault_if, count_look, entry_look, in_turn, count_at, section_looks, past, end_look, first_fault, rows_of}
+use Rattle.book.specs.Reading.{number, fields_at, entry_at, prior, not_above, staff_of, fault_if, count_look, entry_look, in_turn, count_at, section_looks, past, end_look, first_fault, rows_of, Look, refused}
 use Rattle.book.specs.Laws.First.{not_faulty, first-append}
 use Rattle.book.specs.Inner.Steps.{lead_in, stays_in, out_in, count_in, look_in, width_in, step_from, past_entry, start_at, looks_in, past_in, step_in}
 use Rattle.book.specs.declared.Form.{Form}
 use Rattle.book.specs.declared.Form.TheVariants.{Old, Persons, Editions}
-use Rattle.book.specs.declared.Fault.{Fault}
 use Rattle.book.specs.declared.Section.{Section}
 use Rattle.book.specs.declared.Section.TheVariants.{Permissions, Rows, Policies}
-use Rattle.book.specs.declared.Look.{Look}
-use Rattle.book.specs.declared.Look.TheVariants.{Sound, Faulty}
-use Rattle.book.specs.declared.Before.{Before}
-use Rattle.book.specs.declared.Before.TheVariants.{Nothing, Entry}
 use Rattle.book.specs.declared.Cursor.{Cursor}
-use Rattle.book.specs.declared.Step.{Step}
-use Rattle.book.specs.declared.Step.TheVariants as step
-use Rattle.book.specs.declared.Reading.{Reading}
-use Rattle.book.specs.declared.Reading.TheVariants as read
 use Rattle.book.specs.declared.Fault.TheVariants as fault
+use Rattle.std.specs.Result.{result_and}
+use Rattle.book.specs.declared.FaultAt.{FaultAt}
+use Rattle.std.proofs.lemmas.Result.{err_from_is_err_and}
+use Rattle.std.specs.Result.{IsErrAnd}
+
+-- what `?` passes up is the error that it found
+pub passed_up : {T E : Type 0} (r : Result T E) {e : E} → IsErrAnd r (λ x. x ≡ e) → r ≡ Err e
+passed_up r h = let p = err_from_is_err_and r h in p.1 ∙ ap Err p.2
 
 -- a reply, and that what was lent is as it was
 pub both : {A : Type 0} {lent : List ℕ} → A → A × (lent ≡ lent)
@@ -42,9 +41,9 @@ out_by s n e h = h ∙ sym (ap (λ (x : Section). out_in x n) e)
 
 -- how the number that an entry starts with stands to the one before
 pub stays_by : {x y : ℕ} (section : Section) (book : List ℕ) (c : Cursor) (last : ℕ)
-    → c.before ≡ Entry last → x ≡ lead_in section book c.at → y ≡ lead_in section book last → leb x y ≡ stays_in section book c
+    → c.before ≡ Some last → x ≡ lead_in section book c.at → y ≡ lead_in section book last → leb x y ≡ stays_in section book c
 stays_by section book c last e hx hy =
-    rw (hx, hy) (sym (ap (λ (b : Before). not_above (prior (lead_in section book) b) (lead_in section book c.at)) e))
+    rw (hx, hy) (sym (ap (λ (b : Option ℕ). not_above (prior (lead_in section book) b) (lead_in section book c.at)) e))
 
 -- a row's staff number is the number that it starts with, in every form
 staff_here : (form : Form) (book : List ℕ) (at : ℕ) → number 4 book at ≡ (entry_at (rows_of form) book at).staff
@@ -53,9 +52,9 @@ staff_here Old book at = refl
 staff_here Persons book at = refl
 staff_here Editions book at = refl
 
-staff_before : (form : Form) (book : List ℕ) (before : Before) → prior (number 4 book) before ≡ staff_of (prior (entry_at (rows_of form) book) before)
-staff_before form book Nothing = refl
-staff_before form book (Entry at) = ap some (staff_here form book at)
+staff_before : (form : Form) (book : List ℕ) (before : Option ℕ) → prior (number 4 book) before ≡ staff_of (prior (entry_at (rows_of form) book) before)
+staff_before form book None = refl
+staff_before form book (Some at) = ap Some (staff_here form book at)
 
 pub staff_stays : (form : Form) (book : List ℕ) (c : Cursor)
     → stays_in Rows book c ≡ not_above (staff_of (prior (entry_at (rows_of form) book) c.before)) (entry_at (rows_of form) book c.at).staff
@@ -64,15 +63,15 @@ staff_stays form book c =
     ∙ ap (not_above (staff_of (prior (entry_at (rows_of form) book) c.before))) (staff_here form book c.at)
 
 -- a sound look was at something whole
-pub whole : (book : List ℕ) (at wide place : ℕ) (rest : Look) → fault_if (ltb (length book) (at + wide)) fault.Short place rest ≡ Sound
+pub whole : (book : List ℕ) (at wide place : ℕ) (rest : Look) → fault_if (ltb (length book) (at + wide)) fault.Short place rest ≡ Ok tt
     → at + wide ≤ length book
 whole book at wide place rest e = ltb-false _ _ (not_faulty _ _ _ _ e).0
 
-pub whole_count : (section : Section) (book : List ℕ) (at : ℕ) → count_in section book at ≡ Sound → at + 1 ≤ length book
+pub whole_count : (section : Section) (book : List ℕ) (at : ℕ) → count_in section book at ≡ Ok tt → at + 1 ≤ length book
 whole_count section book at e = whole book at 1 _ _ e
 
-pub whole_entry : (form : Form) (section : Section) (book : List ℕ) (listed : ℕ) (before : Before) (at : ℕ)
-    → look_in form section book listed before at ≡ Sound → at + width_in form section ≤ length book
+pub whole_entry : (form : Form) (section : Section) (book : List ℕ) (listed : ℕ) (before : Option ℕ) (at : ℕ)
+    → look_in form section book listed before at ≡ Ok tt → at + width_in form section ≤ length book
 unfolding entry_look
 whole_entry form Permissions book listed before at e = whole book at _ _ _ e
 whole_entry form Rows book listed before at e = whole book at _ _ _ e
@@ -80,68 +79,39 @@ whole_entry form Policies book listed before at e = whole book at _ _ _ e
 
 -- ---- one entry more
 
-module _ (look : Before → ℕ → Look) (wide : ℕ) (c : Cursor) where
+module _ (look : Option ℕ → ℕ → Look) (wide : ℕ) (c : Cursor) where
   -- none is left
-  pub step_none : (n : ℕ) → n ≤ 0 → step_from look wide c n ≡ step.Next c.at
+  pub step_none : (n : ℕ) → n ≤ 0 → step_from look wide c n ≡ Ok c.at
   unfolding step_from first_fault in_turn
-  step_none zero h = ap step.Next (omega arith)
-  step_none (suc n) h = let z : ◌≡◌ {A = ℕ} 0 1 = omega arith in cc
+  step_none zero h = ap Ok (omega arith)
+  step_none (suc n) h = absurd (omega arith)
 
   -- a faulty entry ends it
-  pub step_faulty : (n : ℕ) (f : Fault) (at : ℕ) → 0 < n → look c.before c.at ≡ Faulty f at → step_from look wide c n ≡ step.Refused f at
+  pub step_faulty : (n : ℕ) (e : FaultAt) → 0 < n → look c.before c.at ≡ Err e → step_from look wide c n ≡ Err e
   unfolding step_from first_fault in_turn
-  step_faulty zero f at h e = let z : ◌≡◌ {A = ℕ} 0 1 = omega arith in cc
-  step_faulty (suc n) f at h e = rw e
+  step_faulty zero e h l = absurd (omega arith)
+  step_faulty (suc n) e h l = rw l
 
   -- a sound one is passed
-  pub step_sound : (n : ℕ) → 0 < n → look c.before c.at ≡ Sound → step_from look wide c n ≡ step_from look wide (past_entry c wide) (n - 1)
+  pub step_sound : (n : ℕ) → 0 < n → look c.before c.at ≡ Ok tt → step_from look wide c n ≡ step_from look wide (past_entry c wide) (n - 1)
   unfolding step_from first_fault in_turn
-  step_sound zero h e = let z : ◌≡◌ {A = ℕ} 0 1 = omega arith in cc
+  step_sound zero h e = absurd (omega arith)
   step_sound (suc n) h e =
       let less : suc n - 1 ≡ n = omega arith in
       let far : c.at + wide * suc n ≡ c.at + wide + wide * n = omega (arith, mul-suc wide n) in
-      rw (e, less) (ap (λ (x : ℕ). first_fault step.Refused (step.Next x) (in_turn look wide (Entry c.at) (c.at + wide) n)) far)
+      rw (e, less) (ap (λ (x : ℕ). first_fault x (in_turn look wide (Some c.at) (c.at + wide) n)) far)
 
 -- ---- one section after the other
 
-module _ {R : Type 0} (refused : Fault → ℕ → R) (good : R) where
-  -- a fault that a step tells is the fault of the whole
-  refused_look : (n : ℕ) {f : Fault} {p : ℕ} (k : Look) (l : List Look)
-      → (first_fault step.Refused (step.Next n) l ≡ step.Refused f p → first_fault refused good l ≡ refused f p)
-      → elim k [ Sound ↦ first_fault step.Refused (step.Next n) l | Faulty g at ↦ step.Refused g at ] ≡ step.Refused f p
-      → elim k [ Sound ↦ first_fault refused good l | Faulty g at ↦ refused g at ] ≡ refused f p
-  refused_look n Sound l ih e = ih e
-  refused_look n (Faulty g at) l ih e = cc
-
-  pub told_refused : (n : ℕ) {f : Fault} {p : ℕ} (l : List Look)
-      → first_fault step.Refused (step.Next n) l ≡ step.Refused f p → first_fault refused good l ≡ refused f p
-  unfolding first_fault
-  told_refused n [] e = let z : ◌≡◌ {A = ℕ} 0 1 = cc in cc
-  told_refused n (x ∷ l) e = refused_look n x l (told_refused n l) e
-
-  -- where a step goes on, nothing was at fault
-  next_look : {n m : ℕ} (k : Look) (l : List Look)
-      → (first_fault step.Refused (step.Next n) l ≡ step.Next m → (first_fault refused good l ≡ good) × (m ≡ n))
-      → elim k [ Sound ↦ first_fault step.Refused (step.Next n) l | Faulty g at ↦ step.Refused g at ] ≡ step.Next m
-      → (elim k [ Sound ↦ first_fault refused good l | Faulty g at ↦ refused g at ] ≡ good) × (m ≡ n)
-  next_look Sound l ih e = ih e
-  next_look (Faulty g at) l ih e = let z : ◌≡◌ {A = ℕ} 0 1 = cc in (cc, cc)
-
-  pub told_next : {n m : ℕ} (l : List Look)
-      → first_fault step.Refused (step.Next n) l ≡ step.Next m → (first_fault refused good l ≡ good) × (m ≡ n)
-  unfolding first_fault
-  told_next [] e = (refl, cc)
-  told_next (x ∷ l) e = next_look x l (told_next l) e
-
 -- a section: its count, then its entries
-pub section_faulty : (form : Form) (section : Section) (book : List ℕ) (listed at : ℕ) (f : Fault) (place : ℕ)
-    → count_in section book at ≡ Faulty f place → step_in form section book listed at ≡ step.Refused f place
+pub section_faulty : (form : Form) (section : Section) (book : List ℕ) (listed at : ℕ) (e : FaultAt)
+    → count_in section book at ≡ Err e → step_in form section book listed at ≡ Err e
 unfolding step_in section_looks count_look first_fault
-section_faulty form Permissions book listed at f place e = rw e
-section_faulty form Rows book listed at f place e = rw e
-section_faulty form Policies book listed at f place e = rw e
+section_faulty form Permissions book listed at e h = rw h
+section_faulty form Rows book listed at e h = rw h
+section_faulty form Policies book listed at e h = rw h
 
-pub section_sound : (form : Form) (section : Section) (book : List ℕ) (listed at : ℕ) → count_in section book at ≡ Sound
+pub section_sound : (form : Form) (section : Section) (book : List ℕ) (listed at : ℕ) → count_in section book at ≡ Ok tt
     → step_in form section book listed at
     ≡ step_from (look_in form section book listed) (width_in form section) (start_at (at + 1)) (count_at book at)
 unfolding step_in section_looks count_look first_fault step_from past
@@ -151,34 +121,38 @@ section_sound form Policies book listed at e = rw e
 
 -- ---- from a section on
 
-module _ (form : Form) (section : Section) (book : List ℕ) (listed at : ℕ) (good : Reading) (rest : List Look) where
+-- where a step goes on, it passes on what it has
+passed_on : {Q : Type 0} {n m : Q} (l : List Look) → first_fault n l ≡ Ok m → m ≡ n
+unfolding first_fault
+passed_on [] e = cc
+passed_on (Ok t ∷ l) e = passed_on l e
+passed_on (Err x ∷ l) e = cc
+
+module _ {R : Type 0} (form : Form) (section : Section) (book : List ℕ) (listed at : ℕ) (good : R) (rest : List Look) where
   -- a section's fault is the book's
-  pub read_refused : {f : Fault} {p : ℕ} → step_in form section book listed at ≡ step.Refused f p
-      → first_fault read.Refused good (looks_in form section book listed at ++ rest) ≡ read.Refused f p
+  pub read_refused : {e : FaultAt} → step_in form section book listed at ≡ Err e
+      → first_fault good (looks_in form section book listed at ++ rest) ≡ Err e
   unfolding step_in
-  read_refused e =
-      first-append read.Refused good (looks_in form section book listed at) rest
-      ∙ told_refused read.Refused _ (past_in form section book at) (looks_in form section book listed at) e
+  read_refused h =
+      first-append (past_in form section book at) good (looks_in form section book listed at) rest
+      ∙ ap (λ (x : Result ℕ FaultAt). result_and x (first_fault good rest)) h
 
   -- past a section without fault the rest decides
-  pub read_on : {m : ℕ} → step_in form section book listed at ≡ step.Next m
-      → (first_fault read.Refused good (looks_in form section book listed at ++ rest) ≡ first_fault read.Refused good rest) × (m ≡ past_in form section book at)
+  pub read_on : {m : ℕ} → step_in form section book listed at ≡ Ok m
+      → (first_fault good (looks_in form section book listed at ++ rest) ≡ first_fault good rest) × (m ≡ past_in form section book at)
   unfolding step_in
-  read_on e =
-      let t = told_next read.Refused (first_fault read.Refused good rest) (looks_in form section book listed at) e in
-      (first-append read.Refused good (looks_in form section book listed at) rest ∙ t.0, t.1)
-
--- what a step tells, once the number of listed permissions is known
-pub told : {r t : Step} (form : Form) (section : Section) (book : List ℕ) (at : ℕ) {n listed : ℕ}
-    → r ≡ step_in form section book n at → n ≡ listed → r ≡ t → step_in form section book listed at ≡ t
-told form section book at e h w = ap (λ (x : ℕ). step_in form section book x at) (sym h) ∙ sym e ∙ w
+  read_on h = (
+    first-append (past_in form section book at) good (looks_in form section book listed at) rest
+        ∙ ap (λ (x : Result ℕ FaultAt). result_and x (first_fault good rest)) h,
+    passed_on (looks_in form section book listed at) h,
+  )
 
 -- "bytes follow the policies", or none does
-pub end_excess : (book : List ℕ) (at : ℕ) (good : Reading) → at < length book
-    → first_fault read.Refused good (end_look book at ∷ []) ≡ read.Refused fault.Excess at
+pub end_excess : {R : Type 0} (book : List ℕ) (at : ℕ) (good : R) → at < length book
+    → first_fault good (end_look book at ∷ []) ≡ refused fault.Excess at
 unfolding first_fault
 end_excess book at good h = rw (lt-ltb at (length book) h)
 
-pub end_good : (book : List ℕ) (at : ℕ) (good : Reading) → length book ≤ at → first_fault read.Refused good (end_look book at ∷ []) ≡ good
+pub end_good : {R : Type 0} (book : List ℕ) (at : ℕ) (good : R) → length book ≤ at → first_fault good (end_look book at ∷ []) ≡ Ok good
 unfolding first_fault
 end_good book at good h = rw (le-ltb at (length book) h)

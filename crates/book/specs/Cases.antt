@@ -1,6 +1,6 @@
 -- Books and what is told of them, by the published number and the place: one table, one fact, by running the definition. It pins what definition
 -- and code could change together: every number, every limit at both ends, the order of faults within an entry and between entries, and places.
-use Rattle.std.specs.Prelude.{◌≡◌, refl, ℕ, length, set, take}
+use Rattle.std.specs.Prelude.{◌≡◌, refl, ℕ, length, set, take, Result, Ok, Err}
 use mathlib.Core.List.{List, [], ◌∷◌, ◌++◌, foldr, map}
 use Rattle.sets.specs.Arrays.{tabulate}
 use Rattle.roster.specs.Refusals.{policy_ruling}
@@ -10,8 +10,8 @@ use Rattle.book.specs.Faults.{fault_number}
 use Rattle.book.specs.Reading.{number, fields_at, cut_place, count_look, entry_look, in_turn, section_looks, past, form_of, first_fault, read_of}
 use Rattle.book.specs.declared.Form.TheVariants.{Old, Persons, Editions}
 use Rattle.book.specs.declared.Row.{Row}
-use Rattle.book.specs.declared.Reading.{Reading}
-use Rattle.book.specs.declared.Reading.TheVariants as read
+use Rattle.book.specs.declared.Starts.{Starts}
+use Rattle.book.specs.declared.FaultAt.{FaultAt}
 
 -- ---- book B
 
@@ -115,9 +115,9 @@ pub data Outcome : Type 0 where
   good : (rows policies : ℕ) → Outcome
   bad : (number place : ℕ) → Outcome
 
-abbrev pub outcome : Reading → Outcome
-outcome (read.Good starts) = good starts.rows starts.policies
-outcome (read.Refused fault place) = bad (fault_number fault) place
+abbrev pub outcome : Result Starts FaultAt → Outcome
+outcome (Ok starts) = good starts.rows starts.policies
+outcome (Err e) = bad (fault_number e.fault) e.place
 
 -- the bytes of an old row, and of a policy, whose numbers are below 256
 abbrev pub person : ℕ → ℕ → List ℕ

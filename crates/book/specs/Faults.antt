@@ -1,11 +1,10 @@
 -- 01, "The roster book": the number of each fault, and which numbers a book is refused with. Nothing here is proved: these are definitions.
-use Rattle.std.specs.Prelude.{◌≡◌, ◌⊎◌, ℕ, ◌≤◌}
-use Rattle.std.proofs.Math.Option.{Option, some, none}
+use Rattle.std.specs.Prelude.{◌≡◌, ◌⊎◌, ℕ, ◌≤◌, Option, Some, None, Result, Ok, Err}
 use Rattle.roster.specs.Refusals.{number_of}
 use Rattle.book.specs.declared.Fault.{Fault}
-use Rattle.book.specs.declared.Reading.{Reading}
-use Rattle.book.specs.declared.Reading.TheVariants as read
 use Rattle.book.specs.declared.Fault.TheVariants.{Short, Permissions, Code, Rows, Staff, Holdings, Policies, Task, Policy, Excess}
+use Rattle.book.specs.declared.Starts.{Starts}
+use Rattle.book.specs.declared.FaultAt.{FaultAt}
 
 -- "**11** the book ends before it is whole; then for counts **12** permissions not 1 to 32, **14** rows above 64, **17** policies above 32;
 -- for a code **13** not ascending; for a row **15** staff number not ascending, **16** a holding past the listed permissions; for a policy
@@ -31,6 +30,6 @@ abbrev pub BookNumber : ℕ → Type 0
 BookNumber n = ((2 ≤ n) × (n ≤ 5)) ⊎ (((11 ≤ n) × (n ≤ 19)) ⊎ (n ≡ 25))
 
 -- the fault that a reply tells, without its place
-abbrev pub fault_of : Reading → Option Fault
-fault_of (read.Good starts) = none
-fault_of (read.Refused f at) = some f
+abbrev pub fault_of : Result Starts FaultAt → Option Fault
+fault_of (Ok starts) = None
+fault_of (Err e) = Some e.fault

@@ -1,6 +1,6 @@
 -- 01, "The roster book": what a book's parts are, for every byte string: the codes, the accounts, the policies, and each row by its number. A
 -- refused book has no parts: its sections are taken to start at its end, where no count stands. Nothing here is proved: these are definitions.
-use Rattle.std.specs.Prelude.{true, false, List, [], ◌∷◌, ℕ, zero, suc, ◌+◌, ◌*◌, leb, ltb, length, Err, Ok, Result}
+use Rattle.std.specs.Prelude.{true, false, List, [], ◌∷◌, ℕ, zero, suc, ◌+◌, ◌*◌, leb, ltb, length, Option, Some, None, Result, unwrap_or}
 use Rattle.sets.specs.Arrays.{tabulate}
 use Rattle.roster.specs.Limits.{row_limit}
 use Rattle.roster.specs.Refusals.{made}
@@ -8,21 +8,13 @@ use Rattle.accounts.specs.declared.Accounts.{Accounts}
 use Rattle.book.specs.Layout.{Contents}
 use Rattle.book.specs.Reading.{Kind, codes, rows_of, policies_of, width, entry_at, count_at, past, form_of, front, read_of}
 use Rattle.book.specs.declared.Form.{Form}
-use Rattle.book.specs.declared.Reading.{Reading}
-use Rattle.book.specs.declared.Reading.TheVariants.{Good, Refused}
+use Rattle.book.specs.declared.FaultAt.{FaultAt}
 use Rattle.book.specs.declared.Starts.{Starts}
-use Rattle.book.specs.declared.Place.{Place}
-use Rattle.book.specs.declared.Place.TheVariants as place
-use Rattle.book.specs.declared.Coded.{Coded}
-use Rattle.book.specs.declared.Coded.TheVariants as coded
 use Rattle.book.specs.declared.Row.{Row}
-use Rattle.book.specs.declared.Seen.{Seen}
-use Rattle.book.specs.declared.Seen.TheVariants as seen
 use Rattle.book.specs.declared.Book.{Book}
-use Rattle.book.specs.declared.Listed.{Listed}
-use Rattle.book.specs.declared.Listed.TheVariants as listed
-use Rattle.roster.specs.declared.Refusal.{Refusal}
 use Rattle.roster.specs.declared.Policy.{Policy}
+use Rattle.std.specs.Result.{result_ok, result_unwrap_or}
+use Rattle.roster.specs.declared.Refusal.{Refusal}
 
 -- ---- the values of a book
 
@@ -52,31 +44,30 @@ contents_of book = contents_by (form_of book) book
 -- ---- its parts by place
 
 -- where the sections are taken to start, of a refused book too
-abbrev pub starts_by : List ℕ → Reading → Starts
-starts_by book (Good starts) = starts
-starts_by book (Refused fault at) = record { permissions = length book; rows = length book; policies = length book }
+abbrev pub starts_by : List ℕ → Result Starts FaultAt → Starts
+starts_by book reply = result_unwrap_or reply (record { permissions = length book; rows = length book; policies = length book })
 
 unfoldable pub starts_in : List ℕ → Starts
 starts_in book = starts_by book (read_of book)
 
 -- where the i-th entry of this width stands in the section that starts here, if it has one
-unfoldable pub place_of : ℕ → List ℕ → ℕ → ℕ → Place
+unfoldable pub place_of : ℕ → List ℕ → ℕ → ℕ → Option ℕ
 place_of wide book start i =
     let at = start + 1 + wide * i in
     elim (leb (count_at book start) i) [
-      | true ↦ place.Nothing
-      | false ↦ elim (ltb (length book) (at + wide)) [ true ↦ place.Nothing | false ↦ place.At at ]
+      | true ↦ None
+      | false ↦ elim (ltb (length book) (at + wide)) [ true ↦ None | false ↦ Some at ]
     ]
 
 -- ---- its codes
 
 -- "The i-th code is bit i."
-abbrev pub code_from : List ℕ → Place → Coded
-code_from book (place.At at) = coded.Code (entry_at codes book at)
-code_from book place.Nothing = coded.NoSuchCode
+abbrev pub code_from : List ℕ → Option ℕ → Option ℕ
+code_from book (Some at) = Some (entry_at codes book at)
+code_from book None = None
 
 -- a code of a book whose sections start here
-abbrev pub code_at : List ℕ → Starts → ℕ → Coded
+abbrev pub code_at : List ℕ → Starts → ℕ → Option ℕ
 code_at book starts i = code_from book (place_of (width codes) book starts.permissions i)
 
 unfoldable pub code_count_of : List ℕ → ℕ
@@ -85,31 +76,30 @@ code_count_of book = count_at book (starts_in book).permissions
 -- ---- its rows
 
 -- "staff number and holdings by row; past the last row it answers "no such row"": the row whole, with its person number
-abbrev pub row_from : List ℕ → Place → Seen
-row_from book (place.At at) = seen.Row (entry_at (rows_of (form_of book)) book at)
-row_from book place.Nothing = seen.NoSuchRow
+abbrev pub row_from : List ℕ → Option ℕ → Option Row
+row_from book (Some at) = Some (entry_at (rows_of (form_of book)) book at)
+row_from book None = None
 
 -- a row of a book whose sections start here: where it stands, and what it is
-abbrev pub row_place : List ℕ → Starts → ℕ → Place
+abbrev pub row_place : List ℕ → Starts → ℕ → Option ℕ
 row_place book starts row = place_of (width (rows_of (form_of book))) book starts.rows row
 
-abbrev pub row_at : List ℕ → Starts → ℕ → Seen
+abbrev pub row_at : List ℕ → Starts → ℕ → Option Row
 row_at book starts row = row_from book (row_place book starts row)
 
 -- a row of a book
-abbrev pub row_by_number : List ℕ → ℕ → Seen
+abbrev pub row_by_number : List ℕ → ℕ → Option Row
 row_by_number book row = row_at book (starts_in book) row
 
 -- "a view over it answers staff number and holdings by row"
-abbrev pub row_of : Book → ℕ → Seen
+abbrev pub row_of : Book → ℕ → Option Row
 row_of view row = row_at view.bytes.now view.starts row
 
 -- ---- the accounts and the policies
 
 -- a row that is not there has no numbers and holds nothing
-abbrev pub row_or0 : Seen → Row
-row_or0 (seen.Row row) = row
-row_or0 seen.NoSuchRow = record { staff = 0; person = 0; holdings = 0 }
+abbrev pub row_or0 : Option Row → Row
+row_or0 seen = unwrap_or seen (record { staff = 0; person = 0; holdings = 0 })
 
 -- "The table is one value that carries all 64 holdings and its row count", and all person numbers: that of a book whose sections start here
 abbrev pub accounts_at : List ℕ → Starts → Accounts
@@ -125,20 +115,19 @@ accounts_in book = accounts_at book (starts_in book)
 unfoldable pub policy_count_of : List ℕ → ℕ
 policy_count_of book = count_at book (starts_in book).policies
 
-abbrev pub listed_by : Result Policy Refusal → Listed
-listed_by (Ok p) = listed.Policy p
-listed_by (Err refusal) = listed.NoSuchPolicy
+abbrev pub listed_by : Result Policy Refusal → Option Policy
+listed_by made = result_ok made
 
-abbrev pub policy_from : List ℕ → Place → Listed
-policy_from book (place.At at) = listed_by (made (entry_at (policies_of (form_of book)) book at))
-policy_from book place.Nothing = listed.NoSuchPolicy
+abbrev pub policy_from : List ℕ → Option ℕ → Option Policy
+policy_from book (Some at) = listed_by (made (entry_at (policies_of (form_of book)) book at))
+policy_from book None = None
 
 -- the i-th policy of the section that starts here: where it stands, and what it is
-abbrev pub policy_place : List ℕ → ℕ → ℕ → Place
+abbrev pub policy_place : List ℕ → ℕ → ℕ → Option ℕ
 policy_place book start i = place_of (width (policies_of (form_of book))) book start i
 
-abbrev pub policy_in : List ℕ → ℕ → ℕ → Listed
+abbrev pub policy_in : List ℕ → ℕ → ℕ → Option Policy
 policy_in book start i = policy_from book (policy_place book start i)
 
-unfoldable pub policy_at : List ℕ → ℕ → Listed
+unfoldable pub policy_at : List ℕ → ℕ → Option Policy
 policy_at book i = policy_in book (starts_in book).policies i

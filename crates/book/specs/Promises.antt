@@ -1,31 +1,20 @@
 -- What the reader promises, in the words of the layout: what a first fault is, what may be replied, and what the parts of a book are. The laws
 -- show that every byte string has exactly one reply. Nothing here is proved: these are definitions.
-use Rattle.std.specs.Prelude.{◌≡◌, List, [], ◌∷◌, ◌++◌, ℕ, ◌<◌, length, get_or}
-use Rattle.std.proofs.Math.Option.{Option, some, none}
+use Rattle.std.specs.Prelude.{◌≡◌, List, [], ◌∷◌, ◌++◌, ℕ, ◌<◌, length, get_or, Option, Some, None, Result, Ok}
+use Rattle.std.proofs.Math.Option.{Option as Maybe, some, none}
 use Rattle.std.proofs.Math.ListN.{get_elem?}
 use Rattle.std.specs.Borrow.{Bor}
 use Rattle.sets.specs.Arrays.{tabulate}
 use Rattle.roster.specs.Limits.{row_limit}
-use Rattle.roster.specs.declared.Policy.{Policy}
 use Rattle.accounts.specs.declared.Accounts.{Accounts}
 use Rattle.book.specs.Layout.{Contents, Each, LayoutOf, section, code_widths, code_fields, row_widths, row_fields, form_has_persons, lead}
-use Rattle.book.specs.Reading.{form_of, looks}
+use Rattle.book.specs.Reading.{form_of, looks, Look, refused}
 use Rattle.book.specs.declared.Form.{Form}
 use Rattle.book.specs.Parts.{starts_in, code_count_of, code_at, row_by_number, row_or0, accounts_in, policy_count_of, policy_at}
 use Rattle.book.specs.declared.Fault.{Fault}
-use Rattle.book.specs.declared.Look.{Look}
-use Rattle.book.specs.declared.Look.TheVariants.{Sound, Faulty}
-use Rattle.book.specs.declared.Reading.{Reading}
-use Rattle.book.specs.declared.Reading.TheVariants as read
 use Rattle.book.specs.declared.Starts.{Starts}
-use Rattle.book.specs.declared.Row.{Row}
-use Rattle.book.specs.declared.Coded.{Coded}
-use Rattle.book.specs.declared.Coded.TheVariants as coded
-use Rattle.book.specs.declared.Seen.{Seen}
-use Rattle.book.specs.declared.Seen.TheVariants as seen
 use Rattle.book.specs.declared.Book.{Book}
-use Rattle.book.specs.declared.Listed.{Listed}
-use Rattle.book.specs.declared.Listed.TheVariants as listed
+use Rattle.book.specs.declared.FaultAt.{FaultAt}
 
 -- a byte string, as a lent slice of bytes is one
 abbrev pub Bytes : List ℕ → Type 0
@@ -33,13 +22,13 @@ Bytes book = (i : ℕ) → get_or book i 0 < 256
 
 -- nothing of what is looked at is at fault
 abbrev pub AllSound : List Look → Type 0
-AllSound = Each (λ x. x ≡ Sound)
+AllSound = Each (λ x. x ≡ Ok tt)
 
 -- "the first fault": of all that is looked at, in the order of the bytes, this is at fault and nothing before it is
 pub record FirstFault (book : List ℕ) (f : Fault) (at : ℕ) : Type 0 where
   pub before : List Look
   pub after : List Look
-  pub order : looks book ≡ before ++ (Faulty f at ∷ after)
+  pub order : looks book ≡ before ++ (refused f at ∷ after)
   pub sound : AllSound before
 
 -- where the sections of the layout of these values start
@@ -54,30 +43,22 @@ starts_for v =
     }
 
 -- what may be replied to these bytes
-pub record Allows (book : List ℕ) (r : Reading) : Type 0 where
-  pub good : (v : Contents) → LayoutOf v book → r ≡ read.Good (starts_for v)
-  pub refused : (f : Fault) (at : ℕ) → FirstFault book f at → r ≡ read.Refused f at
+pub record Allows (book : List ℕ) (r : Result Starts FaultAt) : Type 0 where
+  pub good : (v : Contents) → LayoutOf v book → r ≡ Ok (starts_for v)
+  pub refused : (f : Fault) (at : ℕ) → FirstFault book f at → r ≡ refused f at
 
 -- ---- the parts of a book
 
--- what is answered of a code, a row and a policy that is there or not
-abbrev pub code_by : Option ℕ → Coded
-code_by none = coded.NoSuchCode
-code_by (some code) = coded.Code code
-
-abbrev pub row_by : Option Row → Seen
-row_by none = seen.NoSuchRow
-row_by (some row) = seen.Row row
-
-abbrev pub policy_by : Option Policy → Listed
-policy_by none = listed.NoSuchPolicy
-policy_by (some p) = listed.Policy p
+-- what is answered of a code, a row or a policy that is there or not
+abbrev pub answered : {A : Type 0} → Maybe A → Option A
+answered none = None
+answered (some x) = Some x
 
 -- the accounts of these values: a row's holdings and person number, and 0 past the last
 abbrev pub accounts_for : Contents → Accounts
 accounts_for v = record {
-  holdings = tabulate row_limit (λ row. (row_or0 (row_by (get_elem? v.rows row))).holdings);
-  persons = tabulate row_limit (λ row. (row_or0 (row_by (get_elem? v.rows row))).person);
+  holdings = tabulate row_limit (λ row. (row_or0 (answered (get_elem? v.rows row))).holdings);
+  persons = tabulate row_limit (λ row. (row_or0 (answered (get_elem? v.rows row))).person);
   rows = length v.rows;
 }
 
@@ -85,11 +66,11 @@ accounts_for v = record {
 pub record PartsOf (v : Contents) (book : List ℕ) : Type 0 where
   pub form : form_of book ≡ v.form
   pub codes : code_count_of book ≡ length v.codes
-  pub code : (i : ℕ) → code_at book (starts_in book) i ≡ code_by (get_elem? v.codes i)
+  pub code : (i : ℕ) → code_at book (starts_in book) i ≡ answered (get_elem? v.codes i)
   pub accounts : accounts_in book ≡ accounts_for v
   pub policies : policy_count_of book ≡ length v.policies
-  pub policy : (i : ℕ) → policy_at book i ≡ policy_by (get_elem? v.policies i)
-  pub row : (i : ℕ) → row_by_number book i ≡ row_by (get_elem? v.rows i)
+  pub policy : (i : ℕ) → policy_at book i ≡ answered (get_elem? v.policies i)
+  pub row : (i : ℕ) → row_by_number book i ≡ answered (get_elem? v.rows i)
 
 -- what a refused book is taken to have: its form, which is its first byte's, and nothing else
 abbrev pub nothing : Form → Contents

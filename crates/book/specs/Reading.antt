@@ -1,8 +1,7 @@
 -- 01, "The roster book", its last paragraph, and request 05: the book is read from the front, and the first fault is refused with its number and
 -- the place of the count or field concerned. Every count and every entry is looked at, in the order of the bytes; what is looked at stands in a
 -- list, and the reply is its first fault. Nothing here is proved: these are definitions, and they run.
-use Rattle.std.specs.Prelude.{Bool, true, false, List, [], ◌∷◌, ◌++◌, ℕ, zero, suc, ◌+◌, ◌*◌, ◌^◌, eqb, leb, ltb, length, get_or, Err, Ok, Result}
-use Rattle.std.proofs.Math.Option.{Option, some, none}
+use Rattle.std.specs.Prelude.{Bool, true, false, List, [], ◌∷◌, ◌++◌, ℕ, zero, suc, ◌+◌, ◌*◌, ◌^◌, eqb, leb, ltb, length, get_or, Option, Some, None, Result, Ok, Err, option_map}
 use Rattle.roster.specs.Limits.{row_limit}
 use Rattle.roster.specs.Refusals.{outside, made}
 use Rattle.roster.specs.declared.Policy.{Policy}
@@ -15,13 +14,7 @@ use Rattle.book.specs.declared.Row.{Row}
 use Rattle.book.specs.declared.Fault.{Fault}
 use Rattle.book.specs.declared.Fault.TheVariants as fault
 use Rattle.book.specs.declared.Amiss.{Amiss}
-use Rattle.book.specs.declared.Amiss.TheVariants as amiss
-use Rattle.book.specs.declared.Look.{Look}
-use Rattle.book.specs.declared.Look.TheVariants.{Sound, Faulty}
-use Rattle.book.specs.declared.Before.{Before}
-use Rattle.book.specs.declared.Before.TheVariants.{Nothing, Entry}
-use Rattle.book.specs.declared.Reading.{Reading}
-use Rattle.book.specs.declared.Reading.TheVariants as read
+use Rattle.book.specs.declared.FaultAt.{FaultAt}
 use Rattle.book.specs.declared.Starts.{Starts}
 
 -- ---- what stands at a place
@@ -52,6 +45,19 @@ unfoldable pub cut_place : List ℕ → ℕ → ℕ → ℕ
 cut_place [] len at = at
 cut_place (w ∷ ws) len at = elim (ltb len (at + w)) [ true ↦ at | false ↦ cut_place ws len (at + w) ]
 
+-- ---- what is told
+
+-- what looking at one count or one entry comes to: nothing, or its first fault with the place of the field concerned
+abbrev pub Look : Type 0
+Look = Result Unit FaultAt
+
+-- this fault at this place, and this fault of the field of this number
+abbrev pub refused : {A : Type 0} → Fault → ℕ → Result A FaultAt
+refused f at = Err (record { fault = f; place = at })
+
+abbrev pub amiss : Fault → ℕ → Result Unit Amiss
+amiss f k = Err (record { fault = f; field = k })
+
 -- ---- a kind of entry
 
 -- What is to be known of a kind of entry: its fields, the value that they are, the counts that are out of range and their fault, and what is
@@ -61,17 +67,17 @@ pub record Kind (A : Type 0) : Type 0 where
   pub value : List ℕ → A
   pub out_of_range : ℕ → Bool
   pub count_fault : Fault
-  pub faults : ℕ → Option A → A → Amiss
+  pub faults : ℕ → Option A → A → Result Unit Amiss
 
 -- this fault of this field if it is there, and else what comes after it
-abbrev pub amiss_if : Bool → Fault → ℕ → Amiss → Amiss
-amiss_if true f k rest = amiss.Field f k
+abbrev pub amiss_if : Bool → Fault → ℕ → Result Unit Amiss → Result Unit Amiss
+amiss_if true f k rest = amiss f k
 amiss_if false f k rest = rest
 
 -- "not ascending": not above the one before. The first has none before it.
 abbrev pub not_above : Option ℕ → ℕ → Bool
-not_above none x = false
-not_above (some last) x = leb x last
+not_above None x = false
+not_above (Some last) x = leb x last
 
 -- "a holding past the listed permissions": a bit at or past their number
 abbrev pub past_listed : ℕ → ℕ → Bool
@@ -84,12 +90,11 @@ codes = record {
   value = λ f. get_or f 0 0;
   out_of_range = outside permission_limit;
   count_fault = fault.Permissions;
-  faults = λ listed before code. amiss_if (not_above before code) fault.Code 0 amiss.Nothing;
+  faults = λ listed before code. amiss_if (not_above before code) fault.Code 0 (Ok tt);
 }
 
 abbrev pub staff_of : Option Row → Option ℕ
-staff_of none = none
-staff_of (some row) = some row.staff
+staff_of before = option_map (λ row. row.staff) before
 
 -- a row's holdings are its last field, after its staff number and, where it has one, its person number
 abbrev pub holdings_field : Bool → ℕ
@@ -97,8 +102,8 @@ holdings_field false = 1
 holdings_field true = 2
 
 -- "for a row **15** staff number not ascending, **16** a holding past the listed permissions"
-abbrev pub row_amiss : Bool → Bool → Bool → Amiss
-row_amiss persons low beyond = amiss_if low fault.Staff 0 (amiss_if beyond fault.Holdings (holdings_field persons) amiss.Nothing)
+abbrev pub row_amiss : Bool → Bool → Bool → Result Unit Amiss
+row_amiss persons low beyond = amiss_if low fault.Staff 0 (amiss_if beyond fault.Holdings (holdings_field persons) (Ok tt))
 
 -- the row that these fields are, with a person number or without
 abbrev pub row_with : Bool → List ℕ → Row
@@ -125,9 +130,9 @@ field_of refusal.Size = 3
 field_of refusal.Absence = 0
 field_of refusal.Edition = 4
 
-abbrev pub by_made : Result Policy Refusal → Amiss
-by_made (Ok p) = amiss.Nothing
-by_made (Err r) = amiss.Field (fault.Policy r) (field_of r)
+abbrev pub by_made : Result Policy Refusal → Result Unit Amiss
+by_made (Ok p) = Ok tt
+by_made (Err r) = amiss (fault.Policy r) (field_of r)
 
 -- "older books are edition 1"
 abbrev pub edition_with : Bool → List ℕ → ℕ
@@ -160,19 +165,18 @@ abbrev pub entry_at : {A : Type 0} → Kind A → List ℕ → ℕ → A
 entry_at kind book at = kind.value (fields_at kind.widths book at)
 
 -- the entry before, if there is one
-abbrev pub prior : {A : Type 0} → (ℕ → A) → Before → Option A
-prior entry Nothing = none
-prior entry (Entry at) = some (entry at)
+abbrev pub prior : {A : Type 0} → (ℕ → A) → Option ℕ → Option A
+prior entry before = option_map entry before
 
 -- this fault at this place if it is there, and else what comes after it
 abbrev pub fault_if : Bool → Fault → ℕ → Look → Look
-fault_if true f at rest = Faulty f at
+fault_if true f at rest = refused f at
 fault_if false f at rest = rest
 
 -- "The place should be the first byte of the field at fault"
-abbrev pub placed : List ℕ → ℕ → Amiss → Look
-placed ws at amiss.Nothing = Sound
-placed ws at (amiss.Field f k) = Faulty f (field_place ws at k)
+abbrev pub placed : List ℕ → ℕ → Result Unit Amiss → Look
+placed ws at (Ok t) = Ok tt
+placed ws at (Err e) = refused e.fault (field_place ws at e.field)
 
 -- "Within one: **11** the book ends before it is whole; then .."; "for 11, the first byte of the field that isn't whole"
 abbrev pub whole_then : List ℕ → ℕ → List ℕ → Look → Look
@@ -183,17 +187,17 @@ unfoldable pub count_look : {A : Type 0} → Kind A → List ℕ → ℕ → Loo
 count_look kind book at =
     fault_if (ltb (length book) (at + 1)) fault.Short at
     (fault_if (kind.out_of_range (get_or book at 0)) kind.count_fault at
-    Sound)
+    (Ok tt))
 
 -- an entry: whether it is whole is asked before anything else of it
-unfoldable pub entry_look : {A : Type 0} → Kind A → List ℕ → ℕ → Before → ℕ → Look
+unfoldable pub entry_look : {A : Type 0} → Kind A → List ℕ → ℕ → Option ℕ → ℕ → Look
 entry_look kind book listed before at =
     whole_then book at kind.widths (placed kind.widths at (kind.faults listed (prior (entry_at kind book) before) (entry_at kind book at)))
 
 -- n entries of this width from this place on
-unfoldable pub in_turn : (Before → ℕ → Look) → ℕ → Before → ℕ → ℕ → List Look
+unfoldable pub in_turn : (Option ℕ → ℕ → Look) → ℕ → Option ℕ → ℕ → ℕ → List Look
 in_turn look wide before at zero = []
-in_turn look wide before at (suc n) = look before at ∷ in_turn look wide (Entry at) (at + wide) n
+in_turn look wide before at (suc n) = look before at ∷ in_turn look wide (Some at) (at + wide) n
 
 -- the count that stands at this place
 abbrev pub count_at : List ℕ → ℕ → ℕ
@@ -202,7 +206,7 @@ count_at book at = get_or book at 0
 -- "each after its count in one byte"
 unfoldable pub section_looks : {A : Type 0} → Kind A → List ℕ → ℕ → ℕ → List Look
 section_looks kind book listed at =
-    count_look kind book at ∷ in_turn (entry_look kind book listed) (width kind) Nothing (at + 1) (count_at book at)
+    count_look kind book at ∷ in_turn (entry_look kind book listed) (width kind) None (at + 1) (count_at book at)
 
 -- where the section ends that starts at this place
 unfoldable pub past : {A : Type 0} → Kind A → List ℕ → ℕ → ℕ
@@ -238,7 +242,7 @@ listed_in form book = count_at book (front form)
 
 -- "Last, **19** bytes follow the policies; the place is the first of them."
 abbrev pub end_look : List ℕ → ℕ → Look
-end_look book at = fault_if (ltb at (length book)) fault.Excess at Sound
+end_look book at = fault_if (ltb at (length book)) fault.Excess at (Ok tt)
 
 -- all that is looked at, in the order of the bytes: from the policies on, from the rows on, from the front
 abbrev pub looks_from_policies : Form → List ℕ → ℕ → List Look
@@ -257,9 +261,9 @@ looks book = looks_by (form_of book) book
 
 -- "The book is read from the front; the first fault is refused with its number and the place": the first fault of a list, or what there is
 -- without one
-unfoldable pub first_fault : {R : Type 0} → (Fault → ℕ → R) → R → List Look → R
-first_fault refused good [] = good
-first_fault refused good (x ∷ l) = elim x [ Sound ↦ first_fault refused good l | Faulty f at ↦ refused f at ]
+unfoldable pub first_fault : {R : Type 0} → R → List Look → Result R FaultAt
+first_fault good [] = Ok good
+first_fault good (x ∷ l) = elim x [ Ok t ↦ first_fault good l | Err e ↦ Err e ]
 
 -- where the sections of a book start, each with its count
 abbrev pub starts_of : Form → List ℕ → Starts
@@ -268,8 +272,8 @@ starts_of form book =
     record { permissions = front form; rows = rows_at; policies = past (rows_of form) book rows_at }
 
 -- the reply to these bytes, by their form
-abbrev pub read_by : Form → List ℕ → Reading
-read_by form book = first_fault read.Refused (read.Good (starts_of form book)) (looks_by form book)
+abbrev pub read_by : Form → List ℕ → Result Starts FaultAt
+read_by form book = first_fault (starts_of form book) (looks_by form book)
 
-unfoldable pub read_of : List ℕ → Reading
+unfoldable pub read_of : List ℕ → Result Starts FaultAt
 read_of book = read_by (form_of book) book

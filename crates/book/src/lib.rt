@@ -10,7 +10,7 @@ ghost use Rattle.book.specs.Faults.{fault_number};
 ghost use Rattle.book.specs.Reading.{form_of, front, read_of};
 ghost use Rattle.book.specs.Parts.{starts_in, place_of, code_count_of, code_at, row_at, row_of, row_by_number, row_or0, accounts_at, accounts_in, policy_count_of, policy_in, policy_at};
 ghost use Rattle.book.specs.Promises.{ViewOf};
-ghost use Rattle.book.specs.Inner.Steps.{width_in, read_policies, read_rows};
+ghost use Rattle.book.specs.Inner.Steps.{width_in};
 
 use accounts::Accounts;
 use roster::{Policy, Refusal};
@@ -58,11 +58,11 @@ pub struct Starts {
     pub policies: usize,
 }
 
-// The reply to a book: good, with what is needed to reach each part, or its first fault with the place of the count or field concerned.
+// Why a book is refused: its first fault, with the place of the count or field concerned.
 #[derive(Clone, Copy)]
-pub enum Reading {
-    Good(Starts),
-    Refused(Fault, usize),
+pub struct FaultAt {
+    pub fault: Fault,
+    pub place: usize,
 }
 
 // A row of the book, an account. Rows with the same person number are one person; in an old book it is the staff number.
@@ -73,25 +73,13 @@ pub struct Row {
     pub holdings: u32,
 }
 
-// A row by its number.
-#[derive(Clone, Copy)]
-pub enum Seen {
-    Row(Row),
-    NoSuchRow,
-}
-
-// A permission's code by its index.
-#[derive(Clone, Copy)]
-pub enum Coded {
-    Code(u16),
-    NoSuchCode,
-}
-
-// A policy by its index.
-#[derive(Clone, Copy)]
-pub enum Listed {
-    Policy(Policy),
-    NoSuchPolicy,
+impl Row {
+    // What stands where no row is.
+    pub const NOBODY: Row = Row {
+        staff: 0,
+        person: 0,
+        holdings: 0,
+    };
 }
 
 impl Fault {
@@ -121,8 +109,7 @@ impl Form {
     {
         match self {
             Form::Old => 0,
-            Form::Persons => 1,
-            Form::Editions => 1,
+            Form::Persons | Form::Editions => 1,
         }
     }
 }
@@ -137,46 +124,18 @@ pub enum Section {
     Policies,
 }
 
-// What is amiss with a count or an entry by itself: nothing, or this fault of its field of this number, the first being 0.
+// What is amiss with a count or an entry by itself: this fault of its field of this number, the first being 0.
 #[derive(Clone, Copy)]
-pub enum Amiss {
-    Nothing,
-    Field(Fault, usize),
+pub struct Amiss {
+    pub fault: Fault,
+    pub field: usize,
 }
 
-// What looking at one count or one entry of a book finds: nothing, or its first fault with the place of the field concerned.
-#[derive(Clone, Copy)]
-pub enum Look {
-    Sound,
-    Faulty(Fault, usize),
-}
-
-// Where the entry before stands, if there is one.
-#[derive(Clone, Copy)]
-pub enum Before {
-    Nothing,
-    Entry(usize),
-}
-
-// Where the reader stands in a section.
+// Where the reader stands in a section, and where the entry before stands, if there is one.
 #[derive(Clone, Copy)]
 struct Cursor {
-    pub before: Before,
+    pub before: Option<usize>,
     pub at: usize,
-}
-
-// What reading a section comes to: the place past it, or its first fault with its place.
-#[derive(Clone, Copy)]
-enum Step {
-    Next(usize),
-    Refused(Fault, usize),
-}
-
-// Where an entry stands.
-#[derive(Clone, Copy)]
-pub enum Place {
-    At(usize),
-    Nothing,
 }
 
 // ---- the book
@@ -196,58 +155,28 @@ pub fn form_of(book: &[u8]) -> Form
     Form::Old
 }
 
-// From the policies on; then nothing may follow.
-fn read_policies(book: &[u8], form: Form, rows: usize, policies: usize) -> Reading
-    ensures { result ≡ read_policies form book.now rows policies }
-{
-    let front = form.front();
-    match section_step(
-        book,
-        form,
-        Section::Policies,
-        count_at(book, front),
-        policies,
-    ) {
-        Step::Refused(fault, place) => Reading::Refused(fault, place),
-        Step::Next(end) => {
-            if end < book.len() {
-                return Reading::Refused(Fault::Excess, end);
-            }
-            Reading::Good(Starts {
-                permissions: front,
-                rows: rows,
-                policies: policies,
-            })
-        }
-    }
-}
-
-// From the rows on.
-fn read_rows(book: &[u8], form: Form, rows: usize) -> Reading
-    ensures { result ≡ read_rows form book.now rows }
-{
-    match section_step(
-        book,
-        form,
-        Section::Rows,
-        count_at(book, form.front()),
-        rows,
-    ) {
-        Step::Refused(fault, place) => Reading::Refused(fault, place),
-        Step::Next(policies) => read_policies(book, form, rows, policies),
-    }
-}
-
-// The reply to a book.
-pub fn read(book: &[u8]) -> Reading
+// The reply to a book: where its sections start, if it is good, or its first fault. After the policies nothing may follow.
+pub fn read(book: &[u8]) -> Result<Starts, FaultAt>
     ensures reply { result ≡ read_of book.now }
     ensures kept { book.exit.now ≡ book.entry.now }
 {
     let form = form_of(book);
-    match section_step(book, form, Section::Permissions, 0, form.front()) {
-        Step::Refused(fault, place) => Reading::Refused(fault, place),
-        Step::Next(rows) => read_rows(book, form, rows),
+    let permissions = form.front();
+    let rows = section_step(book, form, Section::Permissions, 0, permissions)?;
+    let listed = count_at(book, permissions);
+    let policies = section_step(book, form, Section::Rows, listed, rows)?;
+    let end = section_step(book, form, Section::Policies, listed, policies)?;
+    if end < book.len() {
+        return Err(FaultAt {
+            fault: Fault::Excess,
+            place: end,
+        });
     }
+    Ok(Starts {
+        permissions,
+        rows,
+        policies,
+    })
 }
 
 // ---- the parts of a book
@@ -257,29 +186,26 @@ pub fn starts_in(book: &[u8]) -> Starts
     ensures reply { result ≡ starts_in book.now }
     ensures kept { book.exit.now ≡ book.entry.now }
 {
-    match read(book) {
-        Reading::Good(starts) => starts,
-        Reading::Refused(_, _) => Starts {
-            permissions: book.len(),
-            rows: book.len(),
-            policies: book.len(),
-        },
-    }
+    read(book).unwrap_or(Starts {
+        permissions: book.len(),
+        rows: book.len(),
+        policies: book.len(),
+    })
 }
 
-// Where the i-th entry of the section stands that starts here.
-fn place_of(book: &[u8], form: Form, section: Section, start: usize, i: usize) -> Place
+// Where the i-th entry of the section stands that starts here, if it has one.
+fn place_of(book: &[u8], form: Form, section: Section, start: usize, i: usize) -> Option<usize>
     ensures { result ≡ place_of (width_in form section) book.now start i }
 {
     if i >= count_at(book, start) {
-        return Place::Nothing;
+        return None;
     }
     let wide = width(form, section);
     let at = start + 1 + wide * i;
     if cut(book, at, wide) {
-        return Place::Nothing;
+        return None;
     }
-    Place::At(at)
+    Some(at)
 }
 
 // How many permissions a book lists; a refused one has none.
@@ -292,66 +218,40 @@ pub fn code_count(book: &[u8]) -> usize
 }
 
 // The i-th code of a book whose sections start here.
-pub fn code_at(book: &[u8], starts: Starts, i: usize) -> Coded
+pub fn code_at(book: &[u8], starts: Starts, i: usize) -> Option<u16>
     ensures reply { result ≡ code_at book.now starts i }
     ensures kept { book.exit.now ≡ book.entry.now }
 {
-    match place_of(
-        book,
-        form_of(book),
-        Section::Permissions,
-        starts.permissions,
-        i,
-    ) {
-        Place::At(at) => Coded::Code(two(book, at) as u16),
-        Place::Nothing => Coded::NoSuchCode,
-    }
+    let form = form_of(book);
+    let at = place_of(book, form, Section::Permissions, starts.permissions, i)?;
+    Some(two(book, at) as u16)
 }
 
 // A row of a book whose sections start here.
-pub fn row_at(book: &[u8], starts: Starts, row: usize) -> Seen
+pub fn row_at(book: &[u8], starts: Starts, row: usize) -> Option<Row>
     ensures reply { result ≡ row_at book.now starts row }
     ensures kept { book.exit.now ≡ book.entry.now }
 {
     let form = form_of(book);
-    match place_of(book, form, Section::Rows, starts.rows, row) {
-        Place::At(at) => Seen::Row(row_from(book, form, at)),
-        Place::Nothing => Seen::NoSuchRow,
-    }
+    let at = place_of(book, form, Section::Rows, starts.rows, row)?;
+    Some(row_from(book, form, at))
 }
 
-// A row that is not there has no numbers and holds nothing.
-fn row_or_0(book: &[u8], starts: Starts, row: usize) -> Row
-    ensures { result ≡ row_or0 (row_at book.now starts row) }
-{
-    match row_at(book, starts, row) {
-        Seen::Row(seen) => seen,
-        Seen::NoSuchRow => Row {
-            staff: 0,
-            person: 0,
-            holdings: 0,
-        },
-    }
-}
-
-// The accounts of a book whose sections start here.
+// The accounts of a book whose sections start here. A row that is not there has no numbers and holds nothing.
 fn accounts_at(book: &[u8], starts: Starts) -> Accounts
     ensures { result ≡ accounts_at book.now starts }
 {
     let mut holdings = [0u32; Policy::ROWS];
     let mut persons = [0u32; Policy::ROWS];
-    let mut row = 0;
-    while row < Policy::ROWS {
-        let seen = row_or_0(book, starts, row);
+    for row in 0..Policy::ROWS {
+        let seen = row_at(book, starts, row).unwrap_or(Row::NOBODY);
         holdings[row] = seen.holdings;
         persons[row] = seen.person;
-        row += 1;
     }
-    let rows = count_at(book, starts.rows);
     Accounts {
-        holdings: holdings,
-        persons: persons,
-        rows: rows,
+        holdings,
+        persons,
+        rows: count_at(book, starts.rows),
     }
 }
 
@@ -374,22 +274,17 @@ pub fn policy_count(book: &[u8]) -> usize
 }
 
 // The i-th policy of the section that starts here.
-pub fn policy_in(book: &[u8], start: usize, i: usize) -> Listed
+pub fn policy_in(book: &[u8], start: usize, i: usize) -> Option<Policy>
     ensures reply { result ≡ policy_in book.now start i }
     ensures kept { book.exit.now ≡ book.entry.now }
 {
     let form = form_of(book);
-    match place_of(book, form, Section::Policies, start, i) {
-        Place::At(at) => match policy_from(book, form, at) {
-            Ok(policy) => Listed::Policy(policy),
-            Err(_) => Listed::NoSuchPolicy,
-        },
-        Place::Nothing => Listed::NoSuchPolicy,
-    }
+    let at = place_of(book, form, Section::Policies, start, i)?;
+    policy_from(book, form, at).ok()
 }
 
 // The i-th policy of a book; a refused one has none.
-pub fn policy_at(book: &[u8], i: usize) -> Listed
+pub fn policy_at(book: &[u8], i: usize) -> Option<Policy>
     ensures reply { result ≡ policy_at book.now i }
     ensures kept { book.exit.now ≡ book.entry.now }
 {
@@ -418,7 +313,7 @@ pub fn view<'a>(bytes: &'a [u8]) -> Book<'a>
 }
 
 // A row of the book that is viewed.
-pub fn row_of<'a>(book: Book<'a>, row: usize) -> Seen
+pub fn row_of<'a>(book: Book<'a>, row: usize) -> Option<Row>
     ensures reply { result ≡ row_of book.entry row }
     ensures kept { (book.exit ≡ book.entry) × (book.exit.bytes.now ≡ book.entry.bytes.now) }
 {
@@ -426,7 +321,7 @@ pub fn row_of<'a>(book: Book<'a>, row: usize) -> Seen
 }
 
 // A row of these bytes, for a caller that keeps no view.
-pub fn row_by_number(bytes: &[u8], row: usize) -> Seen
+pub fn row_by_number(bytes: &[u8], row: usize) -> Option<Row>
     ensures reply { result ≡ row_by_number bytes.now row }
     ensures kept { bytes.exit.now ≡ bytes.entry.now }
 {

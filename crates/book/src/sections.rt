@@ -1,11 +1,11 @@
 // What the reader does with one section: the numbers that stand at a place, one count or one entry looked over, and all entries in their turn.
 // specs/Inner/Steps says what each function answers. What is public here is what the writer of a book asks too.
-ghost use Rattle.std.specs.Prelude.{◌≡◌, true, ◌+◌, ◌<◌, ◌^◌, ltb, length, get_or};
+ghost use Rattle.std.specs.Prelude.{◌≡◌, true, ◌+◌, ◌<◌, ◌^◌, ltb, length, get_or, None};
 ghost use Rattle.book.specs.Layout.{row_widths, policy_widths, form_has_persons, form_has_editions};
 ghost use Rattle.book.specs.Reading.{number, past_listed, row_amiss, holdings_field, field_of, field_place, cut_place, width, codes, rows_of, policies_of, entry_at, entry_look};
 ghost use Rattle.book.specs.Inner.Steps.{width_in, lead_in, stays_in, out_in, count_fault_in, count_amiss_in, count_in, made_at, look_in, past_entry, step_from, start_at, step_in};
 
-use crate::{Amiss, Before, Cursor, Fault, Form, Look, PERMISSIONS, POLICIES, Row, Section, Step};
+use crate::{Amiss, Cursor, Fault, FaultAt, Form, PERMISSIONS, POLICIES, Row, Section};
 use roster::{Policy, Refusal};
 
 // The width of a code, in bytes.
@@ -93,8 +93,7 @@ pub fn row_width(form: Form) -> usize
 {
     match form {
         Form::Old => 8,
-        Form::Persons => 12,
-        Form::Editions => 12,
+        Form::Persons | Form::Editions => 12,
     }
 }
 
@@ -103,8 +102,7 @@ pub fn policy_width(form: Form) -> usize
     ensures { result ≡ width (policies_of form) }
 {
     match form {
-        Form::Old => 7,
-        Form::Persons => 7,
+        Form::Old | Form::Persons => 7,
         Form::Editions => 8,
     }
 }
@@ -126,8 +124,7 @@ fn lead(book: &[u8], section: Section, at: usize) -> u32
 {
     match section {
         Section::Permissions => two(book, at),
-        Section::Rows => four(book, at),
-        Section::Policies => four(book, at),
+        Section::Rows | Section::Policies => four(book, at),
     }
 }
 
@@ -135,10 +132,9 @@ fn lead(book: &[u8], section: Section, at: usize) -> u32
 fn stays(book: &[u8], section: Section, cursor: Cursor) -> bool
     ensures { result ≡ stays_in section book.now cursor }
 {
-    let before = cursor.before;
-    match before {
-        Before::Nothing => false,
-        Before::Entry(last) => lead(book, section, cursor.at) <= lead(book, section, last),
+    match cursor.before {
+        None => false,
+        Some(last) => lead(book, section, cursor.at) <= lead(book, section, last),
     }
 }
 
@@ -165,39 +161,51 @@ fn count_fault(section: Section) -> Fault
 }
 
 // What is amiss with a count, which is one field.
-pub fn count_amiss(section: Section, count: usize) -> Amiss
+pub fn count_amiss(section: Section, count: usize) -> Result<(), Amiss>
     ensures { result ≡ count_amiss_in section count }
 {
     if out_of_range(section, count) {
-        return Amiss::Field(count_fault(section), 0);
+        return Err(Amiss {
+            fault: count_fault(section),
+            field: 0,
+        });
     }
-    Amiss::Nothing
+    Ok(())
 }
 
 // A section's count.
-fn look_count(book: &[u8], section: Section, at: usize) -> Look
+fn look_count(book: &[u8], section: Section, at: usize) -> Result<(), FaultAt>
     ensures { result ≡ count_in section book.now at }
 {
     if cut(book, at, 1) {
-        return Look::Faulty(Fault::Short, at);
+        return Err(FaultAt {
+            fault: Fault::Short,
+            place: at,
+        });
     }
-    match count_amiss(section, count_at(book, at)) {
-        Amiss::Nothing => Look::Sound,
-        Amiss::Field(fault, _) => Look::Faulty(fault, at),
-    }
+    count_amiss(section, count_at(book, at)).map_err(|amiss| FaultAt {
+        fault: amiss.fault,
+        place: at,
+    })
 }
 
 // A permission's code.
-fn look_code(book: &[u8], cursor: Cursor) -> Look
+fn look_code(book: &[u8], cursor: Cursor) -> Result<(), FaultAt>
     ensures { result ≡ entry_look codes book.now 0 cursor.before cursor.at }
 {
     if cut(book, cursor.at, CODE_WIDTH) {
-        return Look::Faulty(Fault::Short, cursor.at);
+        return Err(FaultAt {
+            fault: Fault::Short,
+            place: cursor.at,
+        });
     }
     if stays(book, Section::Permissions, cursor) {
-        return Look::Faulty(Fault::Code, cursor.at);
+        return Err(FaultAt {
+            fault: Fault::Code,
+            place: cursor.at,
+        });
     }
-    Look::Sound
+    Ok(())
 }
 
 // Which field of a row its holdings are.
@@ -206,22 +214,27 @@ fn holdings_field(form: Form) -> usize
 {
     match form {
         Form::Old => 1,
-        Form::Persons => 2,
-        Form::Editions => 2,
+        Form::Persons | Form::Editions => 2,
     }
 }
 
 // What is amiss with a row whose staff number does not ascend, or whose holdings go beyond the listed permissions.
-pub fn row_amiss(form: Form, low: bool, beyond: bool) -> Amiss
+pub fn row_amiss(form: Form, low: bool, beyond: bool) -> Result<(), Amiss>
     ensures { result ≡ row_amiss (form_has_persons form) low beyond }
 {
     if low {
-        return Amiss::Field(Fault::Staff, 0);
+        return Err(Amiss {
+            fault: Fault::Staff,
+            field: 0,
+        });
     }
     if beyond {
-        return Amiss::Field(Fault::Holdings, holdings_field(form));
+        return Err(Amiss {
+            fault: Fault::Holdings,
+            field: holdings_field(form),
+        });
     }
-    Amiss::Nothing
+    Ok(())
 }
 
 // Where the first field of a row starts that a book which ends in this row does not have whole. Each field of a row is four bytes.
@@ -247,17 +260,12 @@ pub(crate) fn row_from(book: &[u8], form: Form, at: usize) -> Row
     let second = four(book, at + 4);
     match form {
         Form::Old => Row {
-            staff: staff,
+            staff,
             person: staff,
             holdings: second,
         },
-        Form::Persons => Row {
-            staff: staff,
-            person: second,
-            holdings: four(book, at + 8),
-        },
-        Form::Editions => Row {
-            staff: staff,
+        Form::Persons | Form::Editions => Row {
+            staff,
             person: second,
             holdings: four(book, at + 8),
         },
@@ -265,22 +273,26 @@ pub(crate) fn row_from(book: &[u8], form: Form, at: usize) -> Row
 }
 
 // A row.
-fn look_row(book: &[u8], form: Form, listed: usize, cursor: Cursor) -> Look
+fn look_row(book: &[u8], form: Form, listed: usize, cursor: Cursor) -> Result<(), FaultAt>
     ensures { result ≡ entry_look (rows_of form) book.now listed cursor.before cursor.at }
 {
     let at = cursor.at;
     if cut(book, at, row_width(form)) {
-        return Look::Faulty(Fault::Short, cut_row(book, at));
+        return Err(FaultAt {
+            fault: Fault::Short,
+            place: cut_row(book, at),
+        });
     }
     let row = row_from(book, form, at);
-    match row_amiss(
-        form,
-        stays(book, Section::Rows, cursor),
-        past_listed(listed, row.holdings),
-    ) {
-        Amiss::Nothing => Look::Sound,
-        Amiss::Field(fault, field) => Look::Faulty(fault, at + 4 * field),
+    let low = stays(book, Section::Rows, cursor);
+    let beyond = past_listed(listed, row.holdings);
+    if let Err(amiss) = row_amiss(form, low, beyond) {
+        return Err(FaultAt {
+            fault: amiss.fault,
+            place: at + 4 * amiss.field,
+        });
     }
+    Ok(())
 }
 
 // The edition of the policy whose fields stand here. An older book names none: it is the first.
@@ -289,8 +301,7 @@ fn edition_from(book: &[u8], form: Form, at: usize) -> u32
     ensures { result ≡ (entry_at (policies_of form) book.now at).edition }
 {
     match form {
-        Form::Old => UNNAMED,
-        Form::Persons => UNNAMED,
+        Form::Old | Form::Persons => UNNAMED,
         Form::Editions => wide(byte(book, at + 7)),
     }
 }
@@ -350,26 +361,38 @@ fn policy_offset(refusal: Refusal) -> usize
 }
 
 // A policy.
-fn look_policy(book: &[u8], form: Form, listed: usize, at: usize) -> Look
-    ensures { result ≡ entry_look (policies_of form) book.now listed Before.Nothing at }
+fn look_policy(book: &[u8], form: Form, listed: usize, at: usize) -> Result<(), FaultAt>
+    ensures { result ≡ entry_look (policies_of form) book.now listed None at }
 {
     if cut(book, at, policy_width(form)) {
-        return Look::Faulty(Fault::Short, cut_policy(book, form, at));
+        return Err(FaultAt {
+            fault: Fault::Short,
+            place: cut_policy(book, form, at),
+        });
     }
     if past_listed(listed, four(book, at)) {
-        return Look::Faulty(Fault::Task, at);
+        return Err(FaultAt {
+            fault: Fault::Task,
+            place: at,
+        });
     }
-    match policy_from(book, form, at) {
-        Err(refusal) => {
-            let place = at + policy_offset(refusal);
-            Look::Faulty(Fault::Policy(refusal), place)
-        }
-        Ok(_) => Look::Sound,
+    if let Err(refusal) = policy_from(book, form, at) {
+        return Err(FaultAt {
+            fault: Fault::Policy(refusal),
+            place: at + policy_offset(refusal),
+        });
     }
+    Ok(())
 }
 
 // An entry of the section.
-fn look_entry(book: &[u8], form: Form, section: Section, listed: usize, cursor: Cursor) -> Look
+fn look_entry(
+    book: &[u8],
+    form: Form,
+    section: Section,
+    listed: usize,
+    cursor: Cursor,
+) -> Result<(), FaultAt>
     ensures { result ≡ look_in form section book.now listed cursor.before cursor.at }
 {
     match section {
@@ -388,7 +411,7 @@ impl Cursor {
         ensures { result ≡ past_entry self width }
     {
         Cursor {
-            before: Before::Entry(self.at),
+            before: Some(self.at),
             at: self.at + width,
         }
     }
@@ -402,26 +425,16 @@ fn entries(
     listed: usize,
     at: usize,
     count: usize,
-) -> Step
+) -> Result<usize, FaultAt>
     ensures { result ≡ step_from (look_in form section book.now listed) (width_in form section) (start_at at) count }
 {
     let wide = width(form, section);
-    let mut cursor = Cursor {
-        before: Before::Nothing,
-        at: at,
-    };
-    let mut left = count;
-    while left > 0 {
-        match look_entry(book, form, section, listed, cursor) {
-            Look::Faulty(fault, place) => {
-                return Step::Refused(fault, place);
-            }
-            Look::Sound => {}
-        }
+    let mut cursor = Cursor { before: None, at };
+    for i in 0..count {
+        look_entry(book, form, section, listed, cursor)?;
         cursor = cursor.past(wide);
-        left -= 1;
     }
-    Step::Next(cursor.at)
+    Ok(cursor.at)
 }
 
 // The section that starts here: its count, then its entries.
@@ -431,11 +444,9 @@ pub(crate) fn section_step(
     section: Section,
     listed: usize,
     at: usize,
-) -> Step
+) -> Result<usize, FaultAt>
     ensures { result ≡ step_in form section book.now listed at }
 {
-    match look_count(book, section, at) {
-        Look::Faulty(fault, place) => Step::Refused(fault, place),
-        Look::Sound => entries(book, form, section, listed, at + 1, count_at(book, at)),
-    }
+    look_count(book, section, at)?;
+    entries(book, form, section, listed, at + 1, count_at(book, at))
 }

@@ -1,10 +1,9 @@
 -- The reader and the layout: a book is good exactly if it is the layout of admitted values, which are unique; it is refused exactly with its
 -- first fault; and so every byte string has one reply. Assumes nothing.
-use Rattle.std.specs.Prelude.{◌≡◌, ◌⊎◌, ◌↔◌, ◌≢◌, Bool, true, false, ℕ, ◌+◌, ◌≤◌, eqb, ltb, get_or, take}
-use Rattle.std.proofs.Math.Path.{refl, sym, ap}
+use Rattle.std.specs.Prelude.{◌≡◌, ◌⊎◌, ◌↔◌, ◌≢◌, Bool, true, false, ℕ, ◌+◌, ◌≤◌, eqb, ltb, get_or, take, None, Result, Ok, Err}
+use Rattle.std.proofs.Math.Path.{refl, sym, ap, subst}
 use Rattle.std.proofs.Common.{ap₂, ◌∙◌, inl, inr, arith, length-append, take-append-drop}
 use mathlib.Core.List.{List, [], ◌∷◌, ◌++◌, append-nil}
-use Rattle.std.proofs.Math.Option.{none}
 use Rattle.std.proofs.Math.ListN.{length, drop, drop_of_length-le}
 use borrow.Author.Tests.{ltb-false, le-ltb, ne_eqb, eqb-true}
 use Rattle.roster.specs.Limits.{row_limit}
@@ -12,7 +11,7 @@ use Rattle.roster.specs.Refusals.{outside}
 use Rattle.roster.specs.declared.Policy.{Policy}
 use Rattle.roster.proofs.Laws.Rulings.{inside}
 use Rattle.book.specs.Layout.{Contents, code_widths, row_widths, policy_widths, code_fields, row_fields, policy_fields, form_has_persons, form_has_editions, lead, permission_limit, policy_limit, section, bytes_of, Each, Admitted, LayoutOf}
-use Rattle.book.specs.Reading.{codes, rows_of, policies_of, count_at, section_looks, past, form_by, form_of, front, listed_in, end_look, looks_from_policies, looks_from_rows, looks_by, looks, first_fault, starts_of, read_by, read_of}
+use Rattle.book.specs.Reading.{codes, rows_of, policies_of, count_at, section_looks, past, form_by, form_of, front, listed_in, end_look, looks_from_policies, looks_from_rows, looks_by, looks, first_fault, starts_of, read_by, read_of, refused}
 use Rattle.book.specs.Parts.{contents_by, contents_of, values_at}
 use Rattle.book.specs.Promises.{Bytes, AllSound, FirstFault, starts_for, Allows}
 use Rattle.book.specs.Laws.First.{not_faulty, no_fault, sound_append, append_sound, all_sound, first_faulty, Split, split}
@@ -24,10 +23,8 @@ use Rattle.book.specs.declared.Form.TheVariants.{Old, Persons, Editions}
 use Rattle.book.specs.declared.Row.{Row}
 use Rattle.book.specs.declared.Fault.{Fault}
 use Rattle.book.specs.declared.Fault.TheVariants as fault
-use Rattle.book.specs.declared.Look.TheVariants.{Sound}
-use Rattle.book.specs.declared.Reading.{Reading}
-use Rattle.book.specs.declared.Reading.TheVariants as read
 use Rattle.book.specs.declared.Starts.{Starts}
+use Rattle.book.specs.declared.FaultAt.{FaultAt}
 
 -- ---- a book without fault
 
@@ -77,7 +74,7 @@ module _ (form : Form) where
   unfolding Each
   book_sound book s =
       let n = listed_in form book in
-      let end = no_fault (ltb (past (policies_of form) book (policies_at form book)) (length book)) fault.Excess _ Sound (le-ltb _ _ s.ends) refl in
+      let end = no_fault (ltb (past (policies_of form) book (policies_at form book)) (length book)) fault.Excess _ (Ok tt) (le-ltb _ _ s.ends) refl in
       append_sound (section_looks codes book 0 (front form)) (looks_from_rows form book (rows_at form book))
       (sound_section codes code_fields code_codec book 0 (front form) s.first)
       (append_sound (section_looks (rows_of form) book n (rows_at form book)) (looks_from_policies form book (policies_at form book))
@@ -128,7 +125,7 @@ module _ (form : Form) where
         persons = each (λ row h. (fits-row (form_has_persons form) row h).1) people fit;
         own = each (λ row h. (fits-row (form_has_persons form) row h).2) people fit;
         holdings = rw listed held.1;
-        sound = rw listed (policies_sound (form_has_editions form) n none (values_at (policies_of form) book (policies_at form book)) s.third.values);
+        sound = rw listed (policies_sound (form_has_editions form) n None (values_at (policies_of form) book (policies_at form book)) s.third.values);
         editions = each (fits_edition (form_has_editions form)) (values_at (policies_of form) book (policies_at form book))
             (entries_fit (policies_of form) (policy_fields_of form) (policy_codec_of form) book (policies_at form book + 1) (count_at book (policies_at form book)) bytes);
       }
@@ -230,7 +227,7 @@ laid v book l =
         third = record {
           in_range = ap (ltb policy_limit) three.count ∙ le-ltb _ _ a.policies;
           whole = omega arith;
-          values = rw (one.count, three.values) (sound_policies (form_has_editions form) np none v.policies a.sound);
+          values = rw (one.count, three.values) (sound_policies (form_has_editions form) np None v.policies a.sound);
         };
         ends = omega arith;
       };
@@ -243,55 +240,55 @@ laid v book l =
 
 -- a book is without fault, and the reply is good, or it has a first fault, and that is the reply
 pub record Good (book : List ℕ) : Type 0 where
-  pub reply : read_of book ≡ read.Good (starts_of (form_of book) book)
+  pub reply : read_of book ≡ Ok (starts_of (form_of book) book)
   pub sound : BookSound (form_of book) book
 
 pub record Refused (book : List ℕ) : Type 0 where
   pub fault : Fault
   pub place : ℕ
-  pub reply : read_of book ≡ read.Refused fault place
+  pub reply : read_of book ≡ refused fault place
   pub first : FirstFault book fault place
 
-pub first_fault_refused : (book : List ℕ) (f : Fault) (at : ℕ) → FirstFault book f at → read_of book ≡ read.Refused f at
+pub first_fault_refused : (book : List ℕ) (f : Fault) (at : ℕ) → FirstFault book f at → read_of book ≡ refused f at
 unfolding read_of
 first_fault_refused book f at h =
-    ap (first_fault read.Refused (read.Good (starts_of (form_of book) book))) h.order
-    ∙ first_faulty read.Refused (read.Good (starts_of (form_of book) book)) h.before f at h.after h.sound
+    ap (first_fault (starts_of (form_of book) book)) h.order
+    ∙ first_faulty (starts_of (form_of book) book) h.before f at h.after h.sound
 
 pub reply : (book : List ℕ) → Good book ⊎ Refused book
 unfolding read_of
 reply book = go (split (looks book))
   where
     go : AllSound (looks book) ⊎ Split (looks book) → Good book ⊎ Refused book
-    go (inl s) = inl record { reply = all_sound read.Refused (read.Good (starts_of (form_of book) book)) (looks book) s; sound = sound_book (form_of book) book s }
+    go (inl s) = inl record { reply = all_sound (starts_of (form_of book) book) (looks book) s; sound = sound_book (form_of book) book s }
     go (inr s) =
         let h : FirstFault book s.fault s.place =
         record { before = s.before; after = s.after; order = s.order; sound = s.sound } in
         inr record { fault = s.fault; place = s.place; reply = first_fault_refused book s.fault s.place h; first = h }
 
+same_refusal : {e d : FaultAt} → ◌≡◌ {A = Result Starts FaultAt} (Err e) (Err d) → e ≡ d
+same_refusal h = cc
+
 -- "refused with its number and the place": exactly the first fault
-pub refused_first_fault : (book : List ℕ) (f : Fault) (at : ℕ) → (read_of book ≡ read.Refused f at) ↔ FirstFault book f at
+pub refused_first_fault : (book : List ℕ) (f : Fault) (at : ℕ) → (read_of book ≡ refused f at) ↔ FirstFault book f at
 refused_first_fault book f at = (λ e. go e (reply book), first_fault_refused book f at)
   where
-    go : read_of book ≡ read.Refused f at → Good book ⊎ Refused book → FirstFault book f at
+    go : read_of book ≡ refused f at → Good book ⊎ Refused book → FirstFault book f at
     go e (inl g) = let h = g.reply in let z : ◌≡◌ {A = ℕ} 0 1 = cc in absurd (omega arith)
     go e (inr r) =
-        let h = r.reply in
-        let same : r.fault ≡ f = cc in
-        let there : r.place ≡ at = cc in
-        rw there at (rw same at r.first)
+        subst (λ (x : FaultAt). FirstFault book x.fault x.place) (same_refusal (sym r.reply ∙ e)) r.first
 
 -- the layout of admitted values is good, and starts where they say
-pub layout_good : (v : Contents) (book : List ℕ) → LayoutOf v book → read_of book ≡ read.Good (starts_for v)
+pub layout_good : (v : Contents) (book : List ℕ) → LayoutOf v book → read_of book ≡ Ok (starts_for v)
 unfolding read_of
 layout_good v book l =
     let h = laid v book l in
     ap (λ (f : Form). read_by f book) h.form
-    ∙ all_sound read.Refused (read.Good (starts_of v.form book)) (looks_by v.form book) (book_sound v.form book h.sound)
-    ∙ ap read.Good h.starts
+    ∙ all_sound (starts_of v.form book) (looks_by v.form book) (book_sound v.form book h.sound)
+    ∙ ap Ok h.starts
 
 -- a good book is the layout of the values that are read from it
-pub good_layout : (book : List ℕ) (s : Starts) → Bytes book → read_of book ≡ read.Good s → LayoutOf (contents_of book) book
+pub good_layout : (book : List ℕ) (s : Starts) → Bytes book → read_of book ≡ Ok s → LayoutOf (contents_of book) book
 good_layout book s bytes e = go (reply book)
   where
     go : Good book ⊎ Refused book → LayoutOf (contents_of book) book
@@ -301,7 +298,7 @@ good_layout book s bytes e = go (reply book)
     go (inr r) = let h = r.reply in let z : ◌≡◌ {A = ℕ} 0 1 = cc in absurd (omega arith)
 
 -- "A good book is one that is the layout of admitted values"
-pub good_iff_layout : (book : List ℕ) → Bytes book → ((s : Starts) × (read_of book ≡ read.Good s)) ↔ ((v : Contents) × LayoutOf v book)
+pub good_iff_layout : (book : List ℕ) → Bytes book → ((s : Starts) × (read_of book ≡ Ok s)) ↔ ((v : Contents) × LayoutOf v book)
 good_iff_layout book bytes =
     (λ (s, e). (contents_of book, good_layout book s bytes e), λ (v, l). (starts_for v, layout_good v book l))
 
@@ -317,7 +314,7 @@ layout_unique v w book l m = sym (layout_values v book l) ∙ layout_values w bo
 pub allowed : (book : List ℕ) → Allows book (read_of book)
 allowed book = record { good = λ v l. layout_good v book l; refused = λ f at h. first_fault_refused book f at h }
 
-pub replies_equal : (book : List ℕ) (r s : Reading) → Bytes book → Allows book r → Allows book s → r ≡ s
+pub replies_equal : (book : List ℕ) (r s : Result Starts FaultAt) → Bytes book → Allows book r → Allows book s → r ≡ s
 replies_equal book r s bytes a b = go (reply book)
   where
     go : Good book ⊎ Refused book → r ≡ s

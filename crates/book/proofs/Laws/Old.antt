@@ -1,9 +1,9 @@
 -- Older books move in nothing: a book that starts with neither 200 nor 201 is read, laid out and viewed as 01 has it, and one that does not start
 -- with 201 is read as request 04 has it; what starts so was refused before. Every row of an old book is a person of its own, and every policy of an
 -- older book is of the first edition. Assumes nothing.
-use Rattle.std.specs.Prelude.{◌≡◌, refl, ◌≢◌, Bool, true, false, List, [], ◌∷◌, ◌++◌, map, ℕ, zero, suc, ◌+◌, ◌<◌, eqb, ltb, length, get_or, Ok}
+use Rattle.std.specs.Prelude.{◌≡◌, refl, ◌≢◌, Bool, true, false, List, [], ◌∷◌, ◌++◌, map, ℕ, zero, suc, ◌+◌, ◌<◌, eqb, ltb, length, get_or, Option, Some, None, Result, Ok}
 use Rattle.std.proofs.Common.{sym, ap, ap₂, ◌∙◌, arith, eqb-true, eq-eqb, ne_eqb, le-ltb}
-use Rattle.std.proofs.Math.Option.{Option, some, none}
+use Rattle.std.proofs.Math.Option.{some}
 use Rattle.std.proofs.Math.Decide.{dec_lt}
 use Rattle.std.proofs.Math.ListN.{get_elem?}
 use Rattle.std.proofs.lemmas.Bool.{eqb-false}
@@ -13,45 +13,36 @@ use Rattle.roster.specs.declared.Policy.{Policy}
 use Rattle.roster.specs.declared.Refusal.TheVariants as refusal
 use Rattle.accounts.specs.Meaning.{Different}
 use Rattle.book.specs.Layout.{Contents, code_widths, row_widths, policy_widths, code_fields, row_fields, policy_fields, field_bytes, joined, section, bytes_of, Below, Ascends, Own, OwnEdition, form_has_persons, form_has_editions, permission_limit, Admitted}
-use Rattle.book.specs.Reading.{fields_at, cut_place, amiss_if, fault_if, placed, past_listed, by_made, codes, rows, policies, entry_at, count_look, entry_look, in_turn, count_at, section_looks, past, form_by, form_of, end_look, first_fault, read_by, read_of}
+use Rattle.book.specs.Reading.{fields_at, cut_place, amiss_if, fault_if, placed, past_listed, by_made, codes, rows, policies, entry_at, count_look, entry_look, in_turn, count_at, section_looks, past, form_by, form_of, end_look, first_fault, read_by, read_of, Look, refused}
 use Rattle.book.specs.Parts.{row_place, row_from, row_at}
 use Rattle.book.specs.OldBooks.{OldRow, OldPolicy, old_rows, old_widths, old_fields, old_policies, old_policy_widths, old_policy_fields, old_bytes, old_starts, read_with, old_read, read_before_editions, old_row_from, old_row_at}
 use Rattle.book.specs.Promises.{accounts_for}
 use Rattle.book.proofs.Laws.Parts.{each_nth}
 use Rattle.book.proofs.Laws.View.{there, account_of}
-use Rattle.book.specs.declared.Amiss.{Amiss}
-use Rattle.book.specs.declared.Amiss.TheVariants as amiss
 use Rattle.book.specs.declared.Fault.TheVariants as fault
 use Rattle.book.specs.declared.Form.{Form}
 use Rattle.book.specs.declared.Form.TheVariants.{Old, Persons, Editions}
-use Rattle.book.specs.declared.Look.{Look}
-use Rattle.book.specs.declared.Before.{Before}
-use Rattle.book.specs.declared.Before.TheVariants.{Nothing, Entry}
-use Rattle.book.specs.declared.Place.{Place}
-use Rattle.book.specs.declared.Place.TheVariants as place
-use Rattle.book.specs.declared.Reading.TheVariants as read
 use Rattle.book.specs.declared.Row.{Row}
 use Rattle.book.specs.declared.Starts.{Starts}
-use Rattle.book.specs.declared.Seen.{Seen}
-use Rattle.book.specs.declared.Seen.TheVariants as seen
+use Rattle.book.specs.declared.Amiss.{Amiss}
 
 -- ---- the reader
 
 -- what is told of a row is the same
-row_look_same : (book : List ℕ) (listed : ℕ) (before : Before) (at : ℕ) → entry_look (rows false) book listed before at ≡ entry_look old_rows book listed before at
+row_look_same : (book : List ℕ) (listed : ℕ) (before : Option ℕ) (at : ℕ) → entry_look (rows false) book listed before at ≡ entry_look old_rows book listed before at
 unfolding entry_look fields_at
-row_look_same book listed Nothing at = refl
-row_look_same book listed (Entry last) at = refl
+row_look_same book listed None at = refl
+row_look_same book listed (Some last) at = refl
 
-rows_in_turn : (book : List ℕ) (listed : ℕ) (before : Before) (at n : ℕ)
+rows_in_turn : (book : List ℕ) (listed : ℕ) (before : Option ℕ) (at n : ℕ)
     → in_turn (entry_look (rows false) book listed) 8 before at n ≡ in_turn (entry_look old_rows book listed) 8 before at n
 unfolding in_turn
 rows_in_turn book listed before at zero = refl
-rows_in_turn book listed before at (suc n) = rw (row_look_same book listed before at, rows_in_turn book listed (Entry at) (at + 8) n)
+rows_in_turn book listed before at (suc n) = rw (row_look_same book listed before at, rows_in_turn book listed (Some at) (at + 8) n)
 
 rows-looks : (book : List ℕ) (listed at : ℕ) → section_looks (rows false) book listed at ≡ section_looks old_rows book listed at
 unfolding section_looks count_look
-rows-looks book listed at = ap (λ (l : List Look). count_look old_rows book at ∷ l) (rows_in_turn book listed Nothing (at + 1) (count_at book at))
+rows-looks book listed at = ap (λ (l : List Look). count_look old_rows book at ∷ l) (rows_in_turn book listed None (at + 1) (count_at book at))
 
 -- a policy of an older book, which has no edition, is of the first
 abbrev pub of_first : OldPolicy → Policy
@@ -61,7 +52,7 @@ of_first p = record { task = p.task; away = p.away; crews = p.crews; size = p.si
 policy_amiss : (p : OldPolicy) (a b c d e : Bool)
     → amiss_if a fault.Task 0 (by_made (made_by (refused_if b refusal.Task (refused_if c refusal.Away (refused_if d refusal.Crews (refused_if e refusal.Size (Ok tt))))) (of_first p)))
     ≡ amiss_if a fault.Task 0 (amiss_if b (fault.Policy refusal.Task) 0 (amiss_if c (fault.Policy refusal.Away) 1
-    (amiss_if d (fault.Policy refusal.Crews) 2 (amiss_if e (fault.Policy refusal.Size) 3 amiss.Nothing))))
+    (amiss_if d (fault.Policy refusal.Crews) 2 (amiss_if e (fault.Policy refusal.Size) 3 (Ok tt)))))
 policy_amiss p true b c d e = refl
 policy_amiss p false true c d e = refl
 policy_amiss p false false true d e = refl
@@ -70,27 +61,27 @@ policy_amiss p false false false false true = refl
 policy_amiss p false false false false false = refl
 
 policy_faults : (listed : ℕ) (p : OldPolicy)
-    → amiss_if (past_listed listed p.task) fault.Task 0 (by_made (made (of_first p))) ≡ old_policies.faults listed none p
+    → amiss_if (past_listed listed p.task) fault.Task 0 (by_made (made (of_first p))) ≡ old_policies.faults listed None p
 unfolding policy_ruling
 policy_faults listed p =
     policy_amiss p (past_listed listed p.task) (eqb p.task 0) (ltb away_limit p.away) (outside crew_limit p.crews) (outside size_limit p.size)
 
 -- what is told of a policy is the same
-policy_look_same : (book : List ℕ) (listed : ℕ) (before : Before) (at : ℕ) → entry_look (policies false) book listed before at ≡ entry_look old_policies book listed before at
+policy_look_same : (book : List ℕ) (listed : ℕ) (before : Option ℕ) (at : ℕ) → entry_look (policies false) book listed before at ≡ entry_look old_policies book listed before at
 unfolding entry_look fields_at
 policy_look_same book listed before at =
-    ap (λ (x : Amiss). fault_if (ltb (length book) (at + 7)) fault.Short (cut_place old_policy_widths (length book) at) (placed old_policy_widths at x))
+    ap (λ (x : Result Unit Amiss). fault_if (ltb (length book) (at + 7)) fault.Short (cut_place old_policy_widths (length book) at) (placed old_policy_widths at x))
     (policy_faults listed (entry_at old_policies book at))
 
-policies_in_turn : (book : List ℕ) (listed : ℕ) (before : Before) (at n : ℕ)
+policies_in_turn : (book : List ℕ) (listed : ℕ) (before : Option ℕ) (at n : ℕ)
     → in_turn (entry_look (policies false) book listed) 7 before at n ≡ in_turn (entry_look old_policies book listed) 7 before at n
 unfolding in_turn
 policies_in_turn book listed before at zero = refl
-policies_in_turn book listed before at (suc n) = rw (policy_look_same book listed before at, policies_in_turn book listed (Entry at) (at + 7) n)
+policies_in_turn book listed before at (suc n) = rw (policy_look_same book listed before at, policies_in_turn book listed (Some at) (at + 7) n)
 
 policies-looks : (book : List ℕ) (listed at : ℕ) → section_looks (policies false) book listed at ≡ section_looks old_policies book listed at
 unfolding section_looks count_look
-policies-looks book listed at = ap (λ (l : List Look). count_look old_policies book at ∷ l) (policies_in_turn book listed Nothing (at + 1) (count_at book at))
+policies-looks book listed at = ap (λ (l : List Look). count_look old_policies book at ∷ l) (policies_in_turn book listed None (at + 1) (count_at book at))
 
 -- a book that starts with neither byte is old, and one that starts with 200 has persons
 pub other_old : (book : List ℕ) → get_or book 0 0 ≢ 200 → get_or book 0 0 ≢ 201 → form_of book ≡ Old
@@ -107,7 +98,7 @@ unfolding read_of past
 old_as_before book n m =
     let s = old_starts old_rows 0 book in
     ap (λ (f : Form). read_by f book) (other_old book n m)
-    ∙ ap₂ (λ (l r : List Look). first_fault read.Refused (read.Good s) (section_looks codes book 0 0 ++ (l ++ (r ++ (end_look book (past old_policies book s.policies) ∷ [])))))
+    ∙ ap₂ (λ (l r : List Look). first_fault s (section_looks codes book 0 0 ++ (l ++ (r ++ (end_look book (past old_policies book s.policies) ∷ [])))))
     (rows-looks book (count_at book 0) s.rows) (policies-looks book (count_at book 0) s.policies)
 
 -- and so is that to one with persons
@@ -116,7 +107,7 @@ unfolding read_of past
 persons_as_before book e =
     let s = old_starts (rows true) 1 book in
     ap (λ (f : Form). read_by f book) (with-persons book e)
-    ∙ ap (λ (l : List Look). first_fault read.Refused (read.Good s)
+    ∙ ap (λ (l : List Look). first_fault s
     (section_looks codes book 0 1 ++ (section_looks (rows true) book (count_at book 1) s.rows ++ (l ++ (end_look book (past old_policies book s.policies) ∷ [])))))
     (policies-looks book (count_at book 1) s.policies)
 
@@ -130,15 +121,15 @@ older_as_before book m = go (eqb (get_or book 0 0) 200) refl
 
 -- "which can't start so": what starts with such a byte was no good book before
 many_refused : (book : List ℕ) (first : ℕ) → get_or book 0 0 ≡ first → eqb first 0 ≡ false → ltb permission_limit first ≡ true
-    → old_read book ≡ read.Refused fault.Permissions 0
+    → old_read book ≡ refused fault.Permissions 0
 unfolding first_fault section_looks count_look
 many_refused [] first e nonzero many = absurd (eqb-false first 0 nonzero (sym e))
 many_refused (x ∷ l) first e nonzero many = let whole = le-ltb (length (x ∷ l)) (0 + 1) (omega arith) in rw (whole, e, nonzero, many)
 
-pub new_was_refused : (book : List ℕ) → get_or book 0 0 ≡ 200 → old_read book ≡ read.Refused fault.Permissions 0
+pub new_was_refused : (book : List ℕ) → get_or book 0 0 ≡ 200 → old_read book ≡ refused fault.Permissions 0
 new_was_refused book e = many_refused book 200 e refl refl
 
-pub editions_were_refused : (book : List ℕ) → get_or book 0 0 ≡ 201 → read_before_editions book ≡ read.Refused fault.Permissions 0
+pub editions_were_refused : (book : List ℕ) → get_or book 0 0 ≡ 201 → read_before_editions book ≡ refused fault.Permissions 0
 editions_were_refused book e =
     ap (λ (b : Bool). elim b [ true ↦ read_with (rows true) 1 book | false ↦ old_read book ]) (ne_eqb (get_or book 0 0) 200 (λ h. omega (arith, e, h)))
     ∙ many_refused book 201 e refl refl
@@ -187,14 +178,14 @@ old_layout v old =
 -- ---- rows
 
 -- a row of before, a person by its staff number
-abbrev pub own_person : Option OldRow → Seen
-own_person none = seen.NoSuchRow
-own_person (some row) = seen.Row (record { staff = row.staff; person = row.staff; holdings = row.holdings })
+abbrev pub own_person : Option OldRow → Option Row
+own_person None = None
+own_person (Some row) = Some (record { staff = row.staff; person = row.staff; holdings = row.holdings })
 
-row_from_old : (book : List ℕ) (p : Place) → form_of book ≡ Old → row_from book p ≡ own_person (old_row_from book p)
+row_from_old : (book : List ℕ) (p : Option ℕ) → form_of book ≡ Old → row_from book p ≡ own_person (old_row_from book p)
 unfolding fields_at
-row_from_old book (place.At at) old = rw old
-row_from_old book place.Nothing old = refl
+row_from_old book (Some at) old = rw old
+row_from_old book None old = refl
 
 -- the rows of an old book are those of before, each its own person
 pub old-rows : (book : List ℕ) → get_or book 0 0 ≢ 200 → get_or book 0 0 ≢ 201 → (starts : Starts) (row : ℕ) → row_at book starts row ≡ own_person (old_row_at book starts row)

@@ -1,5 +1,5 @@
 -- The form, the codes, the accounts, the policies and the rows of a book are its values; a refused book has none. Assumes nothing.
-use Rattle.std.specs.Prelude.{◌≡◌, refl, List, [], ◌∷◌, length, Result}
+use Rattle.std.specs.Prelude.{◌≡◌, refl, List, [], ◌∷◌, length, Option, Some, None, Result}
 use Rattle.std.proofs.Common.{sym, ◌∙◌, arith}
 use Rattle.std.proofs.Math.Path.{ap, ap₂, fun_ext}
 use Rattle.std.proofs.Math.Option.{some}
@@ -11,37 +11,34 @@ use Rattle.roster.specs.Refusals.{made_by}
 use Rattle.roster.specs.declared.Policy.{Policy}
 use Rattle.accounts.specs.declared.Accounts.{Accounts}
 use Rattle.book.specs.Layout.{Contents, Each, PolicyFits, LayoutOf}
-use Rattle.book.specs.Reading.{codes, rows_of, policies_of, width, entry_at, count_at, form_of, front, read_of, starts_of}
+use Rattle.book.specs.Reading.{codes, rows_of, policies_of, width, entry_at, count_at, form_of, front, read_of, starts_of, refused}
 use Rattle.book.specs.Parts.{values_at, contents_by, starts_in, starts_by, place_of, code_from, code_count_of, row_place, row_from, row_by_number, row_or0, accounts_in, policy_count_of, listed_by, policy_from, policy_place, policy_at}
-use Rattle.book.specs.Promises.{code_by, row_by, policy_by, accounts_for, PartsOf, nothing}
+use Rattle.book.specs.Promises.{answered, accounts_for, PartsOf, nothing}
 use Rattle.book.specs.Laws.Sections.{entries_length}
 use Rattle.book.proofs.Laws.Values.{code_codec}
 use Rattle.book.proofs.Laws.Books.{rows_at, policies_at, row_codec_of, policy_codec_of, laid, layout_good}
 use Rattle.book.specs.Laws.Places.{standing, standing_value, standing-none}
 use Rattle.book.specs.declared.Fault.{Fault}
-use Rattle.book.specs.declared.Place.{Place}
-use Rattle.book.specs.declared.Place.TheVariants.{At, Nothing}
-use Rattle.book.specs.declared.Reading.TheVariants as read
 use Rattle.book.specs.declared.Row.{Row}
 use Rattle.book.specs.declared.Starts.{Starts}
 use Rattle.roster.specs.declared.Refusal.{Refusal}
 
 -- ---- what stands at a place decides
 
-code_from_lem : (book : List ℕ) (p : Place) → code_from book p ≡ code_by (standing codes book p)
-code_from_lem book (At at) = refl
-code_from_lem book Nothing = refl
+code_from_lem : (book : List ℕ) (p : Option ℕ) → code_from book p ≡ answered (standing codes book p)
+code_from_lem book (Some at) = refl
+code_from_lem book None = refl
 
-row_from_lem : (book : List ℕ) (p : Place) → row_from book p ≡ row_by (standing (rows_of (form_of book)) book p)
-row_from_lem book (At at) = refl
-row_from_lem book Nothing = refl
+row_from_lem : (book : List ℕ) (p : Option ℕ) → row_from book p ≡ answered (standing (rows_of (form_of book)) book p)
+row_from_lem book (Some at) = refl
+row_from_lem book None = refl
 
-policy_from_lem : (book : List ℕ) (listed : ℕ) (p : Place) → ((x : Policy) → standing (policies_of (form_of book)) book p ≡ some x → PolicyFits listed x)
-    → policy_from book p ≡ policy_by (standing (policies_of (form_of book)) book p)
-policy_from_lem book listed (At at) fits =
+policy_from_lem : (book : List ℕ) (listed : ℕ) (p : Option ℕ) → ((x : Policy) → standing (policies_of (form_of book)) book p ≡ some x → PolicyFits listed x)
+    → policy_from book p ≡ answered (standing (policies_of (form_of book)) book p)
+policy_from_lem book listed (Some at) fits =
     let p = entry_at (policies_of (form_of book)) book at in
     ap (λ (r : Result Unit Refusal). listed_by (made_by r p)) (fits p refl).sound
-policy_from_lem book listed Nothing fits = refl
+policy_from_lem book listed None fits = refl
 
 -- what is so of each is so of the one at a place
 pub each_nth : {A : Type 0} (P : A → Type 0) (l : List A) (i : ℕ) (x : A) → Each P l → get_elem? l i ≡ some x → P x
@@ -60,8 +57,8 @@ module _ (v : Contents) (book : List ℕ) (listed : ℕ)
     (row : (i : ℕ) → standing (rows_of (form_of book)) book (place_of (width (rows_of (form_of book))) book (starts_in book).rows i) ≡ get_elem? v.rows i)
     (policy : (i : ℕ) → standing (policies_of (form_of book)) book (place_of (width (policies_of (form_of book))) book (starts_in book).policies i) ≡ get_elem? v.policies i)
     (fits : Each (PolicyFits listed) v.policies) where
-  seen : (i : ℕ) → row_by_number book i ≡ row_by (get_elem? v.rows i)
-  seen i = row_from_lem book (row_place book (starts_in book) i) ∙ ap row_by (row i)
+  seen : (i : ℕ) → row_by_number book i ≡ answered (get_elem? v.rows i)
+  seen i = row_from_lem book (row_place book (starts_in book) i) ∙ ap answered (row i)
 
   -- the accounts are made of the rows
   accounts : accounts_in book ≡ accounts_for v
@@ -76,13 +73,13 @@ module _ (v : Contents) (book : List ℕ) (listed : ℕ)
   parts = record {
     form = form;
     codes = codesCounted;
-    code = λ i. code_from_lem book (place_of (width codes) book (starts_in book).permissions i) ∙ ap code_by (code i);
+    code = λ i. code_from_lem book (place_of (width codes) book (starts_in book).permissions i) ∙ ap answered (code i);
     accounts = accounts;
     policies = policyCounted;
     policy = λ i.
         policy_from_lem book listed (policy_place book (starts_in book).policies i)
         (λ x e. each_nth (PolicyFits listed) v.policies i x fits (sym (policy i) ∙ e))
-        ∙ ap policy_by (policy i);
+        ∙ ap answered (policy i);
     row = seen;
   }
 
@@ -115,7 +112,7 @@ layout_parts v book l =
 
 -- ---- a refused book has none
 
-pub refused_parts : (book : List ℕ) (f : Fault) (at : ℕ) → read_of book ≡ read.Refused f at → PartsOf (nothing (form_of book)) book
+pub refused_parts : (book : List ℕ) (f : Fault) (at : ℕ) → read_of book ≡ refused f at → PartsOf (nothing (form_of book)) book
 unfolding starts_in Each
 refused_parts book f at e =
     let s = ap (starts_by book) e in

@@ -1,10 +1,9 @@
 -- The reply to any byte string is the reply to its first 1,093 bytes: of a longer one nothing matters but those and that it is longer. Assumes
 -- nothing.
-use Rattle.std.specs.Prelude.{◌≡◌, Bool, ltb, length, get_or, take}
+use Rattle.std.specs.Prelude.{◌≡◌, Bool, ltb, length, get_or, take, Option, Some, None, Result, Ok, Err}
 use Rattle.std.proofs.Math.Path.{refl, sym, ap, ap₂}
 use Rattle.std.proofs.Common.{◌∙◌, lt_of_not-le, length-take, get_or-take, lt-ltb, le-ltb, ltb-false}
 use Rattle.std.proofs.Math.Bool.{true, false}
-use Rattle.std.proofs.Math.Option.{some}
 use mathlib.Core.List.{List, [], ◌∷◌, ◌++◌}
 use Prim.Native.Nat.{ℕ, zero, suc, ◌+◌, ◌*◌, min, ◌≤◌, ◌<◌}
 use Rattle.std.proofs.Math.Nat.{mul-suc}
@@ -12,19 +11,15 @@ use Rattle.std.proofs.Math.Decide.{dec_le}
 use native.Mathlib.Omega.{arith}
 use Rattle.roster.specs.Limits.{row_limit}
 use Rattle.book.specs.Layout.{permission_limit, policy_limit}
-use Rattle.book.specs.Reading.{Kind, number, fields_at, total, cut_place, codes, rows_of, policies_of, fault_if, width, entry_at, prior, count_look, entry_look, in_turn, count_at, section_looks, past, form_of, front, listed_in, end_look, first_fault, read_by, read_of}
+use Rattle.book.specs.Reading.{Kind, number, fields_at, total, cut_place, codes, rows_of, policies_of, fault_if, width, entry_at, prior, count_look, entry_look, in_turn, count_at, section_looks, past, form_of, front, listed_in, end_look, first_fault, read_by, read_of, Look}
 use Rattle.book.specs.declared.Form.{Form}
 use Rattle.book.specs.declared.Form.TheVariants.{Old, Persons, Editions}
 use Rattle.book.specs.Laws.First.{not_faulty, first-append}
 use Rattle.roster.proofs.Laws.Rulings.{inside}
-use Rattle.book.specs.declared.Fault.{Fault}
 use Rattle.book.specs.declared.Fault.TheVariants as fault
-use Rattle.book.specs.declared.Look.{Look}
-use Rattle.book.specs.declared.Look.TheVariants.{Sound, Faulty}
-use Rattle.book.specs.declared.Before.{Before}
-use Rattle.book.specs.declared.Before.TheVariants.{Nothing, Entry}
-use Rattle.book.specs.declared.Reading.TheVariants as read
 use Rattle.book.specs.declared.Starts.{Starts}
+use Rattle.std.specs.Result.{result_and}
+use Rattle.book.specs.declared.FaultAt.{FaultAt}
 
 -- no difference is seen below n
 pub record Agree (n : ℕ) (a b : List ℕ) : Type 0 where
@@ -53,10 +48,14 @@ agree_take n a = record { bytes = λ i l. sym (get_or-take n a i 0 l); cut = λ 
         lt-ltb _ _ h' ∙ sym (lt-ltb _ _ k)
 
 -- two ways that part only where a look is sound
-by_look : {R : Type 0} (refused : Fault → ℕ → R) (k : Look) (x y : R) → (k ≡ Sound → x ≡ y)
-    → ◌≡◌ {A = R} (elim k [ Sound ↦ x | Faulty f at ↦ refused f at ]) (elim k [ Sound ↦ y | Faulty f at ↦ refused f at ])
-by_look refused Sound x y h = h refl
-by_look refused (Faulty f at) x y h = refl
+by_look : {R : Type 0} (k : Look) (x y : Result R FaultAt) → (k ≡ Ok tt → x ≡ y)
+    → ◌≡◌ {A = Result R FaultAt} (elim k [ Ok t ↦ x | Err e ↦ Err e ]) (elim k [ Ok t ↦ y | Err e ↦ Err e ])
+by_look (Ok t) x y h = h refl
+by_look (Err e) x y h = refl
+
+-- whether nothing is at fault, or what is
+abbrev passes : List Look → Look
+passes = first_fault tt
 
 module _ (n : ℕ) (a b : List ℕ) (same : Agree n a b) where
   number_agree : (w at : ℕ) → at + w ≤ n → number w a at ≡ number w b at
@@ -80,27 +79,27 @@ module _ (n : ℕ) (a b : List ℕ) (same : Agree n a b) where
     entry_agree at h = ap kind.value (fields_agree kind.widths at h)
 
     -- the entry before ends below n, if there is one
-    abbrev Ends : Before → Type 0
-    Ends Nothing = Unit
-    Ends (Entry at) = at + width kind ≤ n
+    abbrev Ends : Option ℕ → Type 0
+    Ends None = Unit
+    Ends (Some at) = at + width kind ≤ n
 
-    prior_agree : (before : Before) → Ends before → prior (entry_at kind a) before ≡ prior (entry_at kind b) before
-    prior_agree Nothing h = refl
-    prior_agree (Entry at) h = ap some (entry_agree at h)
+    prior_agree : (before : Option ℕ) → Ends before → prior (entry_at kind a) before ≡ prior (entry_at kind b) before
+    prior_agree None h = refl
+    prior_agree (Some at) h = ap Some (entry_agree at h)
 
-    entry_look_agree : (listed : ℕ) (before : Before) (at : ℕ) → Ends before → at + width kind ≤ n
+    entry_look_agree : (listed : ℕ) (before : Option ℕ) (at : ℕ) → Ends before → at + width kind ≤ n
         → entry_look kind a listed before at ≡ entry_look kind b listed before at
     unfolding entry_look
     entry_look_agree listed before at e h = rw (same.cut (at + width kind) h, cut_agree kind.widths at h, prior_agree before e, entry_agree at h)
 
-    in_turn_agree : (listed : ℕ) (before : Before) (at m : ℕ) → Ends before → at + width kind * m ≤ n
+    in_turn_agree : (listed : ℕ) (before : Option ℕ) (at m : ℕ) → Ends before → at + width kind * m ≤ n
         → in_turn (entry_look kind a listed) (width kind) before at m ≡ in_turn (entry_look kind b listed) (width kind) before at m
     unfolding in_turn
     in_turn_agree listed before at zero e h = refl
     in_turn_agree listed before at (suc m) e h =
         let more = mul-suc (width kind) m in
         let here : at + width kind ≤ n = omega arith in
-        rw (entry_look_agree listed before at e here, in_turn_agree listed (Entry at) (at + width kind) m here (omega arith))
+        rw (entry_look_agree listed before at e here, in_turn_agree listed (Some at) (at + width kind) m here (omega arith))
 
     count_agree : (at : ℕ) → at < n → count_at a at ≡ count_at b at
     count_agree at h = same.bytes at h
@@ -110,29 +109,29 @@ module _ (n : ℕ) (a b : List ℕ) (same : Agree n a b) where
     count_look_agree at h = rw (same.cut (at + 1) (omega arith), same.bytes at h)
 
     -- a section whose counts in range keep it below n: its first fault is the same, and past it what follows decides
-    in_range : (at : ℕ) → count_look kind b at ≡ Sound → kind.out_of_range (count_at b at) ≡ false
+    in_range : (at : ℕ) → count_look kind b at ≡ Ok tt → kind.out_of_range (count_at b at) ≡ false
     unfolding count_look
     in_range at e =
-        let range = fault_if (kind.out_of_range (count_at b at)) kind.count_fault at Sound in
-        (not_faulty (kind.out_of_range (count_at b at)) kind.count_fault at Sound (not_faulty (ltb (length b) (at + 1)) fault.Short at range e).1).0
+        let range = fault_if (kind.out_of_range (count_at b at)) kind.count_fault at (Ok tt) in
+        (not_faulty (kind.out_of_range (count_at b at)) kind.count_fault at (Ok tt) (not_faulty (ltb (length b) (at + 1)) fault.Short at range e).1).0
 
-    section_agree : {R : Type 0} (refused : Fault → ℕ → R) (g g' : R) (rest rest' : List Look) (listed at limit : ℕ)
+    section_agree : {R : Type 0} (g g' : R) (rest rest' : List Look) (listed at limit : ℕ)
         → ((c : ℕ) → kind.out_of_range c ≡ false → c ≤ limit) → ((c : ℕ) → c ≤ limit → at + 1 + width kind * c ≤ n)
-        → (count_at b at ≤ limit → first_fault refused g rest ≡ first_fault refused g' rest')
-        → first_fault refused g (section_looks kind a listed at ++ rest) ≡ first_fault refused g' (section_looks kind b listed at ++ rest')
+        → (count_at b at ≤ limit → first_fault g rest ≡ first_fault g' rest')
+        → first_fault g (section_looks kind a listed at ++ rest) ≡ first_fault g' (section_looks kind b listed at ++ rest')
     unfolding section_looks first_fault
-    section_agree {R} refused g g' rest rest' listed at limit range room next =
+    section_agree {R} g g' rest rest' listed at limit range room next =
         let zero_room = room 0 (omega arith) in
         let here : at < n = omega arith in
-        let la = in_turn (entry_look kind a listed) (width kind) Nothing (at + 1) (count_at b at) in
-        let lb = in_turn (entry_look kind b listed) (width kind) Nothing (at + 1) (count_at b at) in
+        let la = in_turn (entry_look kind a listed) (width kind) None (at + 1) (count_at b at) in
+        let lb = in_turn (entry_look kind b listed) (width kind) None (at + 1) (count_at b at) in
         rw (count_look_agree at here, count_agree at here)
-        (by_look refused (count_look kind b at) (first_fault refused g (la ++ rest)) (first_fault refused g' (lb ++ rest')) λ e.
+        (by_look (count_look kind b at) (first_fault g (la ++ rest)) (first_fault g' (lb ++ rest')) λ e.
         let few = range (count_at b at) (in_range at e) in
-        first-append refused g la rest
-        ∙ ap (λ (l : List Look). first_fault refused (first_fault refused g rest) l) (in_turn_agree listed Nothing (at + 1) (count_at b at) tt (room (count_at b at) few))
-        ∙ ap (λ (x : R). first_fault refused x lb) (next few)
-        ∙ sym (first-append refused g' lb rest'))
+        first-append tt g la rest
+        ∙ ap (λ (l : List Look). result_and (passes l) (first_fault g rest)) (in_turn_agree listed None (at + 1) (count_at b at) tt (room (count_at b at) few))
+        ∙ ap (λ (x : Result R FaultAt). result_and (passes lb) x) (next few)
+        ∙ sym (first-append tt g' lb rest'))
 
 -- ---- the book
 
@@ -191,27 +190,27 @@ module _ (a b : List ℕ) (same : Agree 1093 a b) (form : Form) where
 
   -- from the policies on
   policies_agree : (s : Starts) (listed at : ℕ) → at ≤ 835
-      → first_fault read.Refused (read.Good s) (section_looks (policies_of form) a listed at ++ (end_look a (past (policies_of form) a at) ∷ []))
-      ≡ first_fault read.Refused (read.Good s) (section_looks (policies_of form) b listed at ++ (end_look b (past (policies_of form) b at) ∷ []))
+      → first_fault s (section_looks (policies_of form) a listed at ++ (end_look a (past (policies_of form) a at) ∷ []))
+      ≡ first_fault s (section_looks (policies_of form) b listed at ++ (end_look b (past (policies_of form) b at) ∷ []))
   unfolding past first_fault
   policies_agree s listed at h =
-      section_agree 1093 a b same (policies_of form) read.Refused (read.Good s) (read.Good s) _ _ listed at policy_limit (few_policies form)
+      section_agree 1093 a b same (policies_of form) s s _ _ listed at policy_limit (few_policies form)
       (λ c l. omega (arith, near_policy form c l)) λ few.
       rw (same.bytes at (omega arith), same.beyond (at + 1 + width (policies_of form) * count_at b at) (omega (arith, near_policy form (count_at b at) few)))
 
   -- from the rows on
   rows_agree : (listed at : ℕ) → at ≤ 66
-      → first_fault read.Refused (read.Good (record { permissions = front form; rows = at; policies = past (rows_of form) a at }))
+      → first_fault {R = Starts} (record { permissions = front form; rows = at; policies = past (rows_of form) a at })
       (section_looks (rows_of form) a listed at ++ (section_looks (policies_of form) a listed (past (rows_of form) a at) ++ (end_look a (past (policies_of form) a (past (rows_of form) a at)) ∷ [])))
-      ≡ first_fault read.Refused (read.Good (record { permissions = front form; rows = at; policies = past (rows_of form) b at }))
+      ≡ first_fault {R = Starts} (record { permissions = front form; rows = at; policies = past (rows_of form) b at })
       (section_looks (rows_of form) b listed at ++ (section_looks (policies_of form) b listed (past (rows_of form) b at) ++ (end_look b (past (policies_of form) b (past (rows_of form) b at)) ∷ [])))
   rows_agree listed at h =
-      section_agree 1093 a b same (rows_of form) read.Refused _ _ _ _ listed at row_limit (few_rows form) (λ c l. omega (arith, near_row form c l)) λ few.
+      section_agree 1093 a b same (rows_of form) _ _ _ _ listed at row_limit (few_rows form) (λ c l. omega (arith, near_row form c l)) λ few.
       rw (past-rows_agree at h) (policies_agree _ listed (past (rows_of form) b at) (near_policies at h few))
 
   by_form_agree : read_by form a ≡ read_by form b
   by_form_agree =
-      section_agree 1093 a b same codes read.Refused _ _ _ _ 0 (front form) permission_limit few_codes (λ c l. omega (arith, near_front form)) λ few.
+      section_agree 1093 a b same codes _ _ _ _ 0 (front form) permission_limit few_codes (λ c l. omega (arith, near_front form)) λ few.
       rw (past-codes_agree, same.bytes (front form) (omega (arith, near_front form))) (rows_agree (listed_in form b) (past codes b (front form)) (near_rows few))
 
 -- the first byte tells the form

@@ -1,9 +1,8 @@
 -- A refused book: its number is one of 2 to 5 or of 11 to 19, or 25, and its place is at most the book's length. Assumes nothing.
-use Rattle.std.specs.Prelude.{◌≡◌, Bool, eqb, get_or, Ok, Result}
+use Rattle.std.specs.Prelude.{◌≡◌, Bool, eqb, get_or, Option, Some, None, Result, Ok, Err}
 use Rattle.std.proofs.Math.Path.{refl}
 use Rattle.std.proofs.Common.{subst, inl, inr, ltb-false, eqb-true}
 use Rattle.std.proofs.Math.Bool.{true, false}
-use Rattle.std.proofs.Math.Option.{Option}
 use mathlib.Core.List.{List, [], ◌∷◌, ◌++◌}
 use Prim.Native.Nat.{ℕ, zero, suc, ◌+◌, ◌≤◌}
 use native.Mathlib.Omega.{arith}
@@ -15,7 +14,7 @@ use Rattle.roster.specs.declared.Policy.{Policy}
 use Rattle.roster.specs.declared.Refusal.TheVariants.{Task, Away, Crews, Size, Edition}
 use Rattle.book.specs.Layout.{Each, form_has_persons}
 use Rattle.book.specs.Faults.{fault_number, EntryNumber, BookNumber}
-use Rattle.book.specs.Reading.{Kind, total, field_place, cut_place, amiss_if, fault_if, placed, not_above, past_listed, staff_of, row_amiss, by_made, codes, rows_of, policies_of, width, entry_at, prior, count_look, entry_look, in_turn, count_at, section_looks, past, form_by, form_of, front, listed_in, end_look, looks_from_policies, looks_from_rows, looks, read_of}
+use Rattle.book.specs.Reading.{Kind, total, field_place, cut_place, amiss_if, fault_if, placed, not_above, past_listed, staff_of, row_amiss, by_made, codes, rows_of, policies_of, width, entry_at, prior, count_look, entry_look, in_turn, count_at, section_looks, past, form_by, form_of, front, listed_in, end_look, looks_from_policies, looks_from_rows, looks, read_of, Look, refused}
 use Rattle.book.specs.Promises.{AllSound}
 use Rattle.book.specs.Laws.First.{not_faulty}
 use Rattle.book.specs.Laws.Places.{counted}
@@ -24,29 +23,23 @@ use Rattle.book.specs.Laws.Sections.{section_sound}
 use Rattle.book.proofs.Laws.Values.{code_codec}
 use Rattle.book.specs.declared.Fault.{Fault}
 use Rattle.book.specs.declared.Fault.TheVariants as fault
-use Rattle.book.specs.declared.Amiss.{Amiss}
-use Rattle.book.specs.declared.Amiss.TheVariants as amiss
-use Rattle.book.specs.declared.Look.{Look}
-use Rattle.book.specs.declared.Look.TheVariants.{Sound, Faulty}
 use Rattle.book.specs.declared.Form.{Form}
 use Rattle.book.specs.declared.Row.{Row}
-use Rattle.book.specs.declared.Before.{Before}
-use Rattle.book.specs.declared.Before.TheVariants.{Nothing, Entry}
-use Rattle.book.specs.declared.Reading.TheVariants as read
+use Rattle.book.specs.declared.Amiss.{Amiss}
 use Rattle.roster.specs.declared.Refusal.{Refusal}
 
 -- ---- the number
 
 -- what is amiss has such a number, and so has what a look tells
-abbrev pub Told : (ℕ → Type 0) → Amiss → Type 0
-Told Is amiss.Nothing = Unit
-Told Is (amiss.Field f k) = Is (fault_number f)
+abbrev pub Told : (ℕ → Type 0) → Result Unit Amiss → Type 0
+Told Is (Ok t) = Unit
+Told Is (Err e) = Is (fault_number e.fault)
 
 abbrev Tells : Look → Type 0
-Tells Sound = Unit
-Tells (Faulty f at) = BookNumber (fault_number f)
+Tells (Ok t) = Unit
+Tells (Err e) = BookNumber (fault_number e.fault)
 
-pub told_if : (Is : ℕ → Type 0) (b : Bool) (f : Fault) (k : ℕ) (rest : Amiss) → Is (fault_number f) → Told Is rest → Told Is (amiss_if b f k rest)
+pub told_if : (Is : ℕ → Type 0) (b : Bool) (f : Fault) (k : ℕ) (rest : Result Unit Amiss) → Is (fault_number f) → Told Is rest → Told Is (amiss_if b f k rest)
 told_if Is true f k rest n t = n
 told_if Is false f k rest n t = t
 
@@ -60,9 +53,9 @@ of_book n (inl l) = inl l
 of_book n (inr (inl l)) = inr (inl (omega (arith, l.0), omega (arith, l.1)))
 of_book n (inr (inr e)) = inr (inr e)
 
-told_of_book : (ws : List ℕ) (at : ℕ) (x : Amiss) → Told EntryNumber x → Tells (placed ws at x)
-told_of_book ws at amiss.Nothing t = tt
-told_of_book ws at (amiss.Field f k) t = of_book (fault_number f) t
+told_of_book : (ws : List ℕ) (at : ℕ) (x : Result Unit Amiss) → Told EntryNumber x → Tells (placed ws at x)
+told_of_book ws at (Ok x) t = tt
+told_of_book ws at (Err e) t = of_book (fault_number e.fault) t
 
 -- of a policy by itself 2, 3, 4, 5 or 25 is told: there are no rows to be too many, and no absence is named
 told_ruling : (P s d t ed : ℕ) (r : Result Unit Refusal) (p : Policy) → policy_ruling 0 P s d t ed ≡ r → Told EntryNumber (by_made (made_by r p))
@@ -81,12 +74,12 @@ told_ruling P s d t ed r p e =
     go false false false false false = tt
 
 pub told_code : (listed : ℕ) (before : Option ℕ) (code : ℕ) → Told EntryNumber (codes.faults listed before code)
-told_code listed before code = told_if EntryNumber (not_above before code) fault.Code 0 amiss.Nothing (inr (inl (omega arith, omega arith))) tt
+told_code listed before code = told_if EntryNumber (not_above before code) fault.Code 0 (Ok tt) (inr (inl (omega arith, omega arith))) tt
 
 told_look : (persons low beyond : Bool) → Told EntryNumber (row_amiss persons low beyond)
 told_look persons low beyond =
     told_if EntryNumber low fault.Staff 0 _ (inr (inl (omega arith, omega arith)))
-    (told_if EntryNumber beyond fault.Holdings _ amiss.Nothing (inr (inl (omega arith, omega arith))) tt)
+    (told_if EntryNumber beyond fault.Holdings _ (Ok tt) (inr (inl (omega arith, omega arith))) tt)
 
 pub told-row : (form : Form) (listed : ℕ) (before : Option Row) (row : Row) → Told EntryNumber ((rows_of form).faults listed before row)
 told-row form listed before row = told_look (form_has_persons form) (not_above (staff_of before) row.staff) (past_listed listed row.holdings)
@@ -110,7 +103,7 @@ told_in (y ∷ l) m x t = told_in l m x t.1
 
 module _ {A : Type 0} (kind : Kind A) (count : EntryNumber (fault_number kind.count_fault))
     (entry : (listed : ℕ) (before : Option A) (x : A) → Told EntryNumber (kind.faults listed before x)) (book : List ℕ) (listed : ℕ) where
-  entry_told : (before : Before) (at : ℕ) → Tells (entry_look kind book listed before at)
+  entry_told : (before : Option ℕ) (at : ℕ) → Tells (entry_look kind book listed before at)
   unfolding entry_look
   entry_told before at =
       let last = prior (entry_at kind book) before in
@@ -118,16 +111,16 @@ module _ {A : Type 0} (kind : Kind A) (count : EntryNumber (fault_number kind.co
       tells_if (ltb (length book) (at + width kind)) fault.Short (cut_place kind.widths (length book) at) (placed kind.widths at here)
       (inr (inl (omega arith, omega arith))) (told_of_book kind.widths at here (entry listed last (entry_at kind book at)))
 
-  in_turn-told : (before : Before) (at n : ℕ) → AllTold (in_turn (entry_look kind book listed) (width kind) before at n)
+  in_turn-told : (before : Option ℕ) (at n : ℕ) → AllTold (in_turn (entry_look kind book listed) (width kind) before at n)
   unfolding Each in_turn
   in_turn-told before at zero = tt
-  in_turn-told before at (suc n) = (entry_told before at, in_turn-told (Entry at) (at + width kind) n)
+  in_turn-told before at (suc n) = (entry_told before at, in_turn-told (Some at) (at + width kind) n)
 
   section-told : (at : ℕ) → AllTold (section_looks kind book listed at)
   unfolding Each section_looks count_look
   section-told at =
-      let range = tells_if (kind.out_of_range (count_at book at)) kind.count_fault at Sound (of_book (fault_number kind.count_fault) count) tt in
-      (tells_if (ltb (length book) (at + 1)) fault.Short at _ (inr (inl (omega arith, omega arith))) range, in_turn-told Nothing (at + 1) (count_at book at))
+      let range = tells_if (kind.out_of_range (count_at book at)) kind.count_fault at (Ok tt) (of_book (fault_number kind.count_fault) count) tt in
+      (tells_if (ltb (length book) (at + 1)) fault.Short at _ (inr (inl (omega arith, omega arith))) range, in_turn-told None (at + 1) (count_at book at))
 
 looks-told : (book : List ℕ) → AllTold (looks book)
 unfolding Each
@@ -142,25 +135,25 @@ looks-told book =
     (section-told (rows_of form) (inr (inl (omega arith, omega arith))) (told-row form) book n second)
     (all_append (section_looks (policies_of form) book n third) (end_look book end ∷ [])
     (section-told (policies_of form) (inr (inl (omega arith, omega arith))) (told_policy form) book n third)
-    (tells_if (ltb end (length book)) fault.Excess end Sound (inr (inl (omega arith, omega arith))) tt, tt)))
+    (tells_if (ltb end (length book)) fault.Excess end (Ok tt) (inr (inl (omega arith, omega arith))) tt, tt)))
 
 -- a refused book's number is one of 2 to 5 or of 11 to 19, or 25
-pub refused_number : (book : List ℕ) (f : Fault) (at : ℕ) → read_of book ≡ read.Refused f at → BookNumber (fault_number f)
+pub refused_number : (book : List ℕ) (f : Fault) (at : ℕ) → read_of book ≡ refused f at → BookNumber (fault_number f)
 refused_number book f at e =
     let h = (refused_first_fault book f at).0 e in
-    told_in h.before h.after (Faulty f at) (subst AllTold h.order (looks-told book))
+    told_in h.before h.after (refused f at) (subst AllTold h.order (looks-told book))
 
 -- ---- the place
 
 module _ (book : List ℕ) where
   -- whatever is reached, with all before it sound, is told within the book or at its end
   abbrev Near : Look → Type 0
-  Near Sound = Unit
-  Near (Faulty f at) = at ≤ length book
+  Near (Ok t) = Unit
+  Near (Err e) = e.place ≤ length book
 
   unfoldable Reached : List Look → Type 0
   Reached [] = Unit
-  Reached (x ∷ l) = Near x × (x ≡ Sound → Reached l)
+  Reached (x ∷ l) = Near x × (x ≡ Ok tt → Reached l)
 
   reached_append : (l m : List Look) → Reached l → (AllSound l → Reached m) → Reached (l ++ m)
   unfolding Reached Each
@@ -193,26 +186,26 @@ module _ (book : List ℕ) where
       go true e ih = h
       go false e ih = ih (ltb-false _ _ e)
 
-  placed_near : (ws : List ℕ) (at : ℕ) (x : Amiss) → at + total ws ≤ length book → Near (placed ws at x)
-  placed_near ws at amiss.Nothing h = tt
-  placed_near ws at (amiss.Field f k) h = field_near ws at k h
+  placed_near : (ws : List ℕ) (at : ℕ) (x : Result Unit Amiss) → at + total ws ≤ length book → Near (placed ws at x)
+  placed_near ws at (Ok t) h = tt
+  placed_near ws at (Err e) h = field_near ws at e.field h
 
   module _ {A : Type 0} (kind : Kind A) (listed : ℕ) where
     -- past a sound entry the book has it whole
-    in_turn_reached : (before : Before) (at n : ℕ) → at ≤ length book → Reached (in_turn (entry_look kind book listed) (width kind) before at n)
+    in_turn_reached : (before : Option ℕ) (at n : ℕ) → at ≤ length book → Reached (in_turn (entry_look kind book listed) (width kind) before at n)
     unfolding Reached in_turn entry_look
     in_turn_reached before at zero h = tt
     in_turn_reached before at (suc n) h =
         let here = kind.faults listed (prior (entry_at kind book) before) (entry_at kind book at) in
         let near = near_if (ltb (length book) (at + width kind)) fault.Short (cut_place kind.widths (length book) at) (placed kind.widths at here)
         (cut_near kind.widths at h) (λ e. placed_near kind.widths at here (ltb-false _ _ e)) in
-        (near, λ e. in_turn_reached (Entry at) (at + width kind) n (ltb-false _ _ (not_faulty _ _ _ _ e).0))
+        (near, λ e. in_turn_reached (Some at) (at + width kind) n (ltb-false _ _ (not_faulty _ _ _ _ e).0))
 
     section_reached : (at : ℕ) → at ≤ length book → Reached (section_looks kind book listed at)
     unfolding Reached section_looks count_look
     section_reached at h =
-        let near = near_if (ltb (length book) (at + 1)) fault.Short at _ h (λ e. near_if (kind.out_of_range (count_at book at)) kind.count_fault at Sound h (λ o. tt)) in
-        (near, λ e. in_turn_reached Nothing (at + 1) (count_at book at) (ltb-false _ _ (not_faulty _ _ _ _ e).0))
+        let near = near_if (ltb (length book) (at + 1)) fault.Short at _ h (λ e. near_if (kind.out_of_range (count_at book at)) kind.count_fault at (Ok tt) h (λ o. tt)) in
+        (near, λ e. in_turn_reached None (at + 1) (count_at book at) (ltb-false _ _ (not_faulty _ _ _ _ e).0))
 
   -- a book that starts with 200 or 201 is not empty
   front_reached : (b c : Bool) → eqb (get_or book 0 0) 200 ≡ b → eqb (get_or book 0 0) 201 ≡ c → front (form_by b c) ≤ length book
@@ -231,10 +224,10 @@ module _ (book : List ℕ) where
       reached_append (section_looks codes book 0 (front form)) (looks_from_rows form book second) (section_reached codes 0 (front form) (front_reached (eqb (get_or book 0 0) 200) (eqb (get_or book 0 0) 201) refl refl)) (λ a.
       reached_append (section_looks (rows_of form) book n second) (looks_from_policies form book third) (section_reached (rows_of form) n second (section_sound codes _ code_codec book 0 (front form) a).whole) (λ b.
       reached_append (section_looks (policies_of form) book n third) (end_look book end ∷ []) (section_reached (policies_of form) n third (section_sound (rows_of form) _ (row_codec_of form) book n second b).whole) (λ c.
-      (near_if (ltb end (length book)) fault.Excess end Sound (section_sound (policies_of form) _ (policy_codec_of form) book n third c).whole (λ o. tt), λ e. tt))))
+      (near_if (ltb end (length book)) fault.Excess end (Ok tt) (section_sound (policies_of form) _ (policy_codec_of form) book n third c).whole (λ o. tt), λ e. tt))))
 
 -- a refused book's place is at most the book's length
-pub refused_place : (book : List ℕ) (f : Fault) (at : ℕ) → read_of book ≡ read.Refused f at → at ≤ length book
+pub refused_place : (book : List ℕ) (f : Fault) (at : ℕ) → read_of book ≡ refused f at → at ≤ length book
 refused_place book f at e =
     let h = (refused_first_fault book f at).0 e in
-    reached_in book h.before h.after (Faulty f at) h.sound (subst (Reached book) h.order (looks_reached book))
+    reached_in book h.before h.after (refused f at) h.sound (subst (Reached book) h.order (looks_reached book))

@@ -1,7 +1,6 @@
 -- The three kinds of entry: their values have no fault exactly if they are admitted. Assumes nothing.
-use Rattle.std.specs.Prelude.{◌≡◌, refl, Bool, true, false, ℕ, ◌^◌, ◌≤◌, ◌<◌, leb, Err, Ok, Result}
+use Rattle.std.specs.Prelude.{◌≡◌, refl, Bool, true, false, ℕ, ◌^◌, ◌≤◌, ◌<◌, leb, Option, Some, None, Ok, Err, Result}
 use Rattle.std.proofs.Common.{ap, lt_of_lt_of_le, arith, pow_mono, leb-false}
-use Rattle.std.proofs.Math.Option.{Option, some, none}
 use mathlib.Core.List.{List, [], ◌∷◌}
 use Rattle.std.proofs.lemmas.Bool.{lt-leb}
 use Rattle.roster.specs.Refusals.{own_ruling, made_by}
@@ -14,7 +13,6 @@ use Rattle.book.specs.Laws.First.{not_amiss, none_amiss}
 use Rattle.book.specs.Laws.Sections.{Codec, Fits, Faultless}
 use Rattle.book.specs.declared.Row.{Row}
 use Rattle.book.specs.declared.Fault.TheVariants as fault
-use Rattle.book.specs.declared.Amiss.TheVariants.{Nothing}
 use Rattle.book.specs.Laws.Values.{RowFits}
 use Rattle.roster.specs.declared.Refusal.{Refusal}
 
@@ -61,92 +59,92 @@ each_free (x ∷ l) = (tt, each_free l)
 
 -- the entry before comes before the first
 abbrev pub After : {A : Type 0} → (A → ℕ) → Option A → List A → Type 0
-After key none l = Unit
-After key (some x) l = Below key x l
+After key None l = Unit
+After key (Some x) l = Below key x l
 
 module _ {A : Type 0} (kind : Kind A) (fields : A → List ℕ) (codec : Codec kind fields) (listed : ℕ) (key : A → ℕ) (more : A → Type 0)
-    (there : (before : Option A) (x : A) (l : List A) → kind.faults listed before x ≡ Nothing → After key before (x ∷ l) × more x)
-    (back : (before : Option A) (x : A) (l : List A) → After key before (x ∷ l) → more x → kind.faults listed before x ≡ Nothing) where
+    (there : (before : Option A) (x : A) (l : List A) → kind.faults listed before x ≡ Ok tt → After key before (x ∷ l) × more x)
+    (back : (before : Option A) (x : A) (l : List A) → After key before (x ∷ l) → more x → kind.faults listed before x ≡ Ok tt) where
   pub ascend : (before : Option A) (l : List A) → Faultless kind fields codec listed before l → After key before l × Ascends key l × Each more l
   unfolding Faultless Ascends Each Below
-  ascend none [] h = (tt, tt, tt)
-  ascend (some y) [] h = (tt, tt, tt)
+  ascend None [] h = (tt, tt, tt)
+  ascend (Some y) [] h = (tt, tt, tt)
   ascend before (x ∷ l) h =
       let here = there before x l h.0 in
-      let next = ascend (some x) l h.1 in
+      let next = ascend (Some x) l h.1 in
       (here.0, (next.0, next.1), (here.1, next.2))
 
   pub ascending : (before : Option A) (l : List A) → After key before l → Ascends key l → Each more l → Faultless kind fields codec listed before l
   unfolding Faultless Ascends Each
   ascending before [] a s m = tt
-  ascending before (x ∷ l) a s m = (back before x l a m.0, ascending (some x) l s.0 s.1 m.1)
+  ascending before (x ∷ l) a s m = (back before x l a m.0, ascending (Some x) l s.0 s.1 m.1)
 
-code_there : (listed : ℕ) (before : Option ℕ) (x : ℕ) (l : List ℕ) → codes.faults listed before x ≡ Nothing → After (λ c. c) before (x ∷ l) × Unit {0}
+code_there : (listed : ℕ) (before : Option ℕ) (x : ℕ) (l : List ℕ) → codes.faults listed before x ≡ Ok tt → After (λ c. c) before (x ∷ l) × Unit {0}
 unfolding Below
-code_there listed none x l e = (tt, tt)
-code_there listed (some y) x l e = (leb-false x y (not_amiss _ _ _ _ e).0, tt)
+code_there listed None x l e = (tt, tt)
+code_there listed (Some y) x l e = (leb-false x y (not_amiss _ _ _ _ e).0, tt)
 
-code_back : (listed : ℕ) (before : Option ℕ) (x : ℕ) (l : List ℕ) → After (λ c. c) before (x ∷ l) → Unit {0} → codes.faults listed before x ≡ Nothing
+code_back : (listed : ℕ) (before : Option ℕ) (x : ℕ) (l : List ℕ) → After (λ c. c) before (x ∷ l) → Unit {0} → codes.faults listed before x ≡ Ok tt
 unfolding Below
-code_back listed none x l a m = refl
-code_back listed (some y) x l a m = none_amiss (leb x y) fault.Code 0 Nothing (lt-leb x y a) refl
+code_back listed None x l a m = refl
+code_back listed (Some y) x l a m = none_amiss (leb x y) fault.Code 0 (Ok tt) (lt-leb x y a) refl
 
 -- a row is sound exactly if it has neither fault
-row_sound : (persons low beyond : Bool) → row_amiss persons low beyond ≡ Nothing → (low ≡ false) × (beyond ≡ false)
+row_sound : (persons low beyond : Bool) → row_amiss persons low beyond ≡ Ok tt → (low ≡ false) × (beyond ≡ false)
 row_sound persons false false e = (refl, refl)
 row_sound persons false true e = (refl, cc)
 row_sound persons true false e = (cc, refl)
 row_sound persons true true e = (cc, cc)
 
-sound_row : (persons : Bool) {low beyond : Bool} → low ≡ false → beyond ≡ false → row_amiss persons low beyond ≡ Nothing
+sound_row : (persons : Bool) {low beyond : Bool} → low ≡ false → beyond ≡ false → row_amiss persons low beyond ≡ Ok tt
 sound_row persons l b = rw (l, b)
 
-row_there : (persons : Bool) (listed : ℕ) (before : Option Row) (x : Row) (l : List Row) → (rows persons).faults listed before x ≡ Nothing
+row_there : (persons : Bool) (listed : ℕ) (before : Option Row) (x : Row) (l : List Row) → (rows persons).faults listed before x ≡ Ok tt
     → After (λ row. row.staff) before (x ∷ l) × (x.holdings < 2 ^ listed)
 unfolding Below
-row_there persons listed none x l e = (tt, leb-false (2 ^ listed) x.holdings (row_sound persons false (past_listed listed x.holdings) e).1)
-row_there persons listed (some y) x l e =
+row_there persons listed None x l e = (tt, leb-false (2 ^ listed) x.holdings (row_sound persons false (past_listed listed x.holdings) e).1)
+row_there persons listed (Some y) x l e =
     let s = row_sound persons (leb x.staff y.staff) (past_listed listed x.holdings) e in
     (leb-false x.staff y.staff s.0, leb-false (2 ^ listed) x.holdings s.1)
 
 row_back : (persons : Bool) (listed : ℕ) (before : Option Row) (x : Row) (l : List Row)
-    → After (λ row. row.staff) before (x ∷ l) → x.holdings < 2 ^ listed → (rows persons).faults listed before x ≡ Nothing
+    → After (λ row. row.staff) before (x ∷ l) → x.holdings < 2 ^ listed → (rows persons).faults listed before x ≡ Ok tt
 unfolding Below
-row_back persons listed none x l a m = sound_row persons refl (lt-leb (2 ^ listed) x.holdings m)
-row_back persons listed (some y) x l a m = sound_row persons (lt-leb x.staff y.staff a) (lt-leb (2 ^ listed) x.holdings m)
+row_back persons listed None x l a m = sound_row persons refl (lt-leb (2 ^ listed) x.holdings m)
+row_back persons listed (Some y) x l a m = sound_row persons (lt-leb x.staff y.staff a) (lt-leb (2 ^ listed) x.holdings m)
 
 -- codes have no fault exactly if they ascend
-pub codes_sound : (listed : ℕ) (l : List ℕ) → Faultless codes code_fields code_codec listed none l → Ascends (λ c. c) l
-codes_sound listed l h = (ascend codes code_fields code_codec listed (λ c. c) (λ c. Unit {0}) (code_there listed) (code_back listed) none l h).1
+pub codes_sound : (listed : ℕ) (l : List ℕ) → Faultless codes code_fields code_codec listed None l → Ascends (λ c. c) l
+codes_sound listed l h = (ascend codes code_fields code_codec listed (λ c. c) (λ c. Unit {0}) (code_there listed) (code_back listed) None l h).1
 
-pub sound_codes : (listed : ℕ) (l : List ℕ) → Ascends (λ c. c) l → Faultless codes code_fields code_codec listed none l
-sound_codes listed l a = ascending codes code_fields code_codec listed (λ c. c) (λ c. Unit {0}) (code_there listed) (code_back listed) none l tt a (each_free l)
+pub sound_codes : (listed : ℕ) (l : List ℕ) → Ascends (λ c. c) l → Faultless codes code_fields code_codec listed None l
+sound_codes listed l a = ascending codes code_fields code_codec listed (λ c. c) (λ c. Unit {0}) (code_there listed) (code_back listed) None l tt a (each_free l)
 
--- rows have none exactly if their staff numbers ascend and their holdings are within the listed permissions
-pub rows_sound : (persons : Bool) (listed : ℕ) (l : List Row) → Faultless (rows persons) (row_fields persons) (row_codec persons) listed none l
+-- rows have None exactly if their staff numbers ascend and their holdings are within the listed permissions
+pub rows_sound : (persons : Bool) (listed : ℕ) (l : List Row) → Faultless (rows persons) (row_fields persons) (row_codec persons) listed None l
     → Ascends (λ row. row.staff) l × Each (λ row. row.holdings < 2 ^ listed) l
 rows_sound persons listed l h =
-    let both = ascend (rows persons) (row_fields persons) (row_codec persons) listed (λ row. row.staff) (λ row. row.holdings < 2 ^ listed) (row_there persons listed) (row_back persons listed) none l h in
+    let both = ascend (rows persons) (row_fields persons) (row_codec persons) listed (λ row. row.staff) (λ row. row.holdings < 2 ^ listed) (row_there persons listed) (row_back persons listed) None l h in
     (both.1, both.2)
 
 pub sound_rows : (persons : Bool) (listed : ℕ) (l : List Row) → Ascends (λ row. row.staff) l → Each (λ row. row.holdings < 2 ^ listed) l
-    → Faultless (rows persons) (row_fields persons) (row_codec persons) listed none l
+    → Faultless (rows persons) (row_fields persons) (row_codec persons) listed None l
 sound_rows persons listed l a m =
-    ascending (rows persons) (row_fields persons) (row_codec persons) listed (λ row. row.staff) (λ row. row.holdings < 2 ^ listed) (row_there persons listed) (row_back persons listed) none l tt a m
+    ascending (rows persons) (row_fields persons) (row_codec persons) listed (λ row. row.staff) (λ row. row.holdings < 2 ^ listed) (row_there persons listed) (row_back persons listed) None l tt a m
 
 -- ---- policies
 
 -- what is made is a policy exactly if nothing is refused
-admitted : (r : Result Unit Refusal) (p : Policy) → by_made (made_by r p) ≡ Nothing → r ≡ Ok tt
+admitted : (r : Result Unit Refusal) (p : Policy) → by_made (made_by r p) ≡ Ok tt → r ≡ Ok tt
 admitted (Ok tt) p e = refl
 admitted (Err refusal) p e = cc
 
-policy_there : (editions : Bool) (listed : ℕ) (before : Option Policy) (p : Policy) → (policies editions).faults listed before p ≡ Nothing → PolicyFits listed p
+policy_there : (editions : Bool) (listed : ℕ) (before : Option Policy) (p : Policy) → (policies editions).faults listed before p ≡ Ok tt → PolicyFits listed p
 policy_there editions listed before p e =
     let first = not_amiss _ _ _ _ e in
     record { task = leb-false (2 ^ listed) p.task first.0; sound = admitted (own_ruling p) p first.1 }
 
-policy_back : (editions : Bool) (listed : ℕ) (before : Option Policy) (p : Policy) → PolicyFits listed p → (policies editions).faults listed before p ≡ Nothing
+policy_back : (editions : Bool) (listed : ℕ) (before : Option Policy) (p : Policy) → PolicyFits listed p → (policies editions).faults listed before p ≡ Ok tt
 policy_back editions listed before p f =
     none_amiss (past_listed listed p.task) fault.Task 0 _ (lt-leb (2 ^ listed) p.task f.task)
     (ap (λ (r : Result Unit Refusal). by_made (made_by r p)) f.sound)
@@ -156,13 +154,13 @@ module _ (editions : Bool) (listed : ℕ) where
       → Each (PolicyFits listed) l
   unfolding Faultless Each
   policies_sound before [] h = tt
-  policies_sound before (p ∷ l) h = (policy_there editions listed before p h.0, policies_sound (some p) l h.1)
+  policies_sound before (p ∷ l) h = (policy_there editions listed before p h.0, policies_sound (Some p) l h.1)
 
   pub sound_policies : (before : Option Policy) (l : List Policy) → Each (PolicyFits listed) l
       → Faultless (policies editions) (policy_fields editions) (policy_codec editions) listed before l
   unfolding Faultless Each
   sound_policies before [] h = tt
-  sound_policies before (p ∷ l) h = (policy_back editions listed before p h.0, sound_policies (some p) l h.1)
+  sound_policies before (p ∷ l) h = (policy_back editions listed before p h.0, sound_policies (Some p) l h.1)
 
 -- ---- widths: admitted values fit their fields
 

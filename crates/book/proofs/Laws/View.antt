@@ -1,7 +1,7 @@
 -- The view: lent bytes have one view, what it answers of a row is the row of the bytes, and that agrees with their accounts. Assumes nothing.
-use Rattle.std.specs.Prelude.{◌≡◌, refl, ◌⊎◌, List, [], ◌∷◌, ℕ, zero, suc, ◌≤◌, ◌<◌, length, get_or}
+use Rattle.std.specs.Prelude.{◌≡◌, refl, ◌⊎◌, List, [], ◌∷◌, ℕ, zero, suc, ◌≤◌, ◌<◌, length, get_or, Option, Some, None}
 use Rattle.std.proofs.Common.{sym, ap, ◌∙◌, inl, inr, arith}
-use Rattle.std.proofs.Math.Option.{Option, some, none}
+use Rattle.std.proofs.Math.Option.{Option as Maybe, some, none}
 use Rattle.std.proofs.Math.ListN.{get_elem?}
 use Rattle.std.specs.Borrow.{Bor}
 use Rattle.sets.specs.Laws.Arrays.{at-tabulate}
@@ -10,13 +10,11 @@ use Rattle.accounts.specs.declared.Accounts.{Accounts}
 use Rattle.book.specs.Layout.{Contents}
 use Rattle.book.specs.Reading.{form_of, starts_of}
 use Rattle.book.specs.Parts.{contents_of, row_at, row_by_number, row_of, row_or0, accounts_in}
-use Rattle.book.specs.Promises.{Bytes, row_by, accounts_for, PartsOf, nothing, ViewOf}
+use Rattle.book.specs.Promises.{Bytes, answered, accounts_for, PartsOf, nothing, ViewOf}
 use Rattle.book.proofs.Laws.Books.{Good, Refused, reply, good_layout}
 use Rattle.book.proofs.Laws.Parts.{layout_parts, refused_parts}
 use Rattle.book.specs.declared.Row.{Row}
 use Rattle.book.specs.declared.Starts.{Starts}
-use Rattle.book.specs.declared.Seen.{Seen}
-use Rattle.book.specs.declared.Seen.TheVariants as seen
 use Rattle.book.specs.declared.Book.{Book}
 
 -- ---- one view, one answer
@@ -68,31 +66,31 @@ not_there (x ∷ l) zero h = absurd (omega arith)
 not_there (x ∷ l) (suc i) h = not_there l i (omega arith)
 
 -- what is answered of a row, beside accounts: a row of them with its person number and what it holds there, and "no such row" past the last
-pub record RowSeen (a : Accounts) (row : ℕ) (r : Seen) : Type 0 where
+pub record RowSeen (a : Accounts) (row : ℕ) (r : Option Row) : Type 0 where
   pub held : row < a.rows
-      → (staff : ℕ) × (r ≡ seen.Row (record { staff = staff; person = get_or a.persons row 0; holdings = get_or a.holdings row 0 }))
-  pub past : a.rows ≤ row → r ≡ seen.NoSuchRow
+      → (staff : ℕ) × (r ≡ Some (record { staff = staff; person = get_or a.persons row 0; holdings = get_or a.holdings row 0 }))
+  pub past : a.rows ≤ row → r ≡ None
 
 -- what the accounts of these values have of a row
 pub account_of : (v : Contents) (row : ℕ) (x : Row) → row < row_limit → get_elem? v.rows row ≡ some x
     → (get_or (accounts_for v).persons row 0 ≡ x.person) × (get_or (accounts_for v).holdings row 0 ≡ x.holdings)
 account_of v row x h e =
-    let at : Option Row → Row = λ o. row_or0 (row_by o) in (
-      at-tabulate row_limit (λ i. (at (get_elem? v.rows i)).person) row h ∙ ap (λ (o : Option Row). (at o).person) e,
-      at-tabulate row_limit (λ i. (at (get_elem? v.rows i)).holdings) row h ∙ ap (λ (o : Option Row). (at o).holdings) e,
+    let at : Maybe Row → Row = λ o. row_or0 (answered o) in (
+      at-tabulate row_limit (λ i. (at (get_elem? v.rows i)).person) row h ∙ ap (λ (o : Maybe Row). (at o).person) e,
+      at-tabulate row_limit (λ i. (at (get_elem? v.rows i)).holdings) row h ∙ ap (λ (o : Maybe Row). (at o).holdings) e,
     )
 
 seen-with : {s p p' h h' : ℕ} → p ≡ p' → h ≡ h'
-    → ◌≡◌ {A = Seen} (seen.Row (record { staff = s; person = p; holdings = h })) (seen.Row (record { staff = s; person = p'; holdings = h' }))
+    → ◌≡◌ {A = Option Row} (Some (record { staff = s; person = p; holdings = h })) (Some (record { staff = s; person = p'; holdings = h' }))
 seen-with e f = rw (e, f)
 
-values_agree : (v : Contents) → length v.rows ≤ row_limit → (row : ℕ) → RowSeen (accounts_for v) row (row_by (get_elem? v.rows row))
+values_agree : (v : Contents) → length v.rows ≤ row_limit → (row : ℕ) → RowSeen (accounts_for v) row (answered (get_elem? v.rows row))
 values_agree v few row = record {
   held = λ l.
       let here = there v.rows row l in
       let has = account_of v row here.0 (omega (arith, few)) here.1 in
-      (here.0.staff, ap row_by here.1 ∙ seen-with (sym has.0) (sym has.1));
-  past = λ l. ap row_by (not_there v.rows row l);
+      (here.0.staff, ap answered here.1 ∙ seen-with (sym has.0) (sym has.1));
+  past = λ l. ap answered (not_there v.rows row l);
 }
 
 row_agrees : (book : List ℕ) → Bytes book → (row : ℕ) → RowSeen (accounts_in book) row (row_by_number book row)

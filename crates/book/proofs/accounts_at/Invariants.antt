@@ -1,6 +1,6 @@
 -- The loop's invariant: the rows passed have what they hold, and their person numbers. Assumes nothing.
 use mathlib.Core.List.{List}
-use Prim.Native.Nat.{ℕ, ◌-◌}
+use Prim.Native.Nat.{ℕ}
 use Rattle.sets.specs.Laws.Arrays.{Passed}
 use Rattle.book.specs.Parts.{row_at, row_or0}
 use Rattle.book.specs.declared.Starts.{Starts}
@@ -14,7 +14,7 @@ abbrev pub person : List ℕ → Starts → ℕ → ℕ
 person book starts row = (row_or0 (row_at book starts row)).person
 
 abbrev pub invariant-loop-row : goal.invariant-loop-row
-invariant-loop-row l = Passed 0 64 (held l.book l.starts) l.row l.holdings × Passed 0 64 (person l.book l.starts) l.row l.persons
-
-abbrev pub decreases-loop-row : goal.decreases-loop-row
-decreases-loop-row l = 64 - l.row
+invariant-loop-row l = record {
+  holdings : Passed 0 64 (held l.book l.starts) l.row l.holdings;
+  persons : Passed 0 64 (person l.book l.starts) l.row l.persons;
+}

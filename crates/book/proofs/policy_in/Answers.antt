@@ -17,5 +17,5 @@ stood c = let a = c.args in
 pub policy_from-requires : goal.policy_from-requires
 policy_from-requires c = let a = c.args in
     let wide = ap (λ (f : Form). width (policies_of f)) c.form_of-form.ensures.reply in
-    let h = place_within _ a.book.now a.start a.i (sym (stood (goal.at.policy_from-requires c).After-place_of) ∙ c.in-At.is) in
+    let h = place_within _ a.book.now a.start a.i (sym (stood (goal.at.policy_from-requires c).After-place_of) ∙ c.in_ok-at.was) in
     omega arith

@@ -17,5 +17,5 @@ stood c = let a = c.args in
 pub row_from-requires : goal.row_from-requires
 row_from-requires c = let a = c.args in
     let wide = ap (λ (f : Form). width (rows_of f)) c.form_of-form.ensures.reply in
-    let h = place_within _ _ _ _ (sym (stood (goal.at.row_from-requires c).After-place_of) ∙ c.in-At.is) in
+    let h = place_within _ _ _ _ (sym (stood (goal.at.row_from-requires c).After-place_of) ∙ c.in_ok-at.was) in
     omega arith

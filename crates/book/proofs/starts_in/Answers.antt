@@ -1,14 +1,8 @@
 -- What the reader replies says where the sections are taken to start. Assumes nothing.
-use mathlib.Core.Path.{sym, ap, ◌∙◌}
+use mathlib.Core.Path.{ap, ◌∙◌}
 use Rattle.book.specs.Parts.{starts_in, starts_by}
 use Rattle.book.proofs.starts_in.Goals as goal
 
-pub returns-in-Good-clause-reply : goal.returns-in-Good-clause-reply
+pub returns-clause-reply : goal.returns-clause-reply
 unfolding starts_in
-returns-in-Good-clause-reply c =
-    ap (starts_by c.args.book.now) (sym c.in-Good.is ∙ c.read.ensures.reply)
-
-pub returns-in-Refused-clause-reply : goal.returns-in-Refused-clause-reply
-unfolding starts_in
-returns-in-Refused-clause-reply c =
-    ap (starts_by c.args.book.now) (sym c.in-Refused.is ∙ c.read.ensures.reply)
+returns-clause-reply c = c.unwrap_or.ensures ∙ ap (starts_by c.args.book.now) c.read.ensures.reply

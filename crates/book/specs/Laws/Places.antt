@@ -1,8 +1,8 @@
 -- Where an entry stands: it is whole there, it is the value of that index, and past the last there is none. Assumes nothing.
-use Rattle.std.specs.Prelude.{◌≡◌, Bool, true, false, List, leb, ltb, length, get_or}
+use Rattle.std.specs.Prelude.{◌≡◌, Bool, true, false, List, leb, ltb, length, get_or, Option, Some, None}
 use Rattle.std.proofs.Math.Path.{refl, sym, ap}
 use Rattle.std.proofs.Common.{◌∙◌}
-use Rattle.std.proofs.Math.Option.{Option, some, none}
+use Rattle.std.proofs.Math.Option.{Option as Maybe, some, none}
 use Prim.Native.Nat.{ℕ, zero, suc, ◌+◌, ◌*◌, ◌≤◌, ◌<◌}
 use Rattle.std.proofs.Math.Nat.{lt_of_not-le, mul-suc, mul-le-mul_left}
 use Rattle.std.proofs.Math.Decide.{dec_le}
@@ -11,27 +11,25 @@ use Rattle.std.proofs.Math.ListN.{get_elem?, get_or-eq_default}
 use borrow.Author.Tests.{le-leb, lt-leb, le-ltb, lt-ltb, ltb-false}
 use Rattle.book.specs.Reading.{Kind, width, entry_at, count_at, past}
 use Rattle.book.specs.Parts.{entries_at, values_at, place_of}
-use Rattle.book.specs.declared.Place.{Place}
-use Rattle.book.specs.declared.Place.TheVariants.{At, Nothing}
 
 module _ (wide : ℕ) (book : List ℕ) (start i : ℕ) where
   -- past the last entry
-  pub place_past : count_at book start ≤ i → place_of wide book start i ≡ Nothing
+  pub place_past : count_at book start ≤ i → place_of wide book start i ≡ None
   unfolding place_of
   place_past h = rw (place_of, le-leb (count_at book start) i h)
 
   -- one that the book does not have whole
-  pub place_cut : i < count_at book start → length book < start + 1 + wide * i + wide → place_of wide book start i ≡ Nothing
+  pub place_cut : i < count_at book start → length book < start + 1 + wide * i + wide → place_of wide book start i ≡ None
   unfolding place_of
   place_cut h l = rw (place_of, lt-leb (count_at book start) i h) (rw (lt-ltb (length book) (start + 1 + wide * i + wide) l))
 
-  pub place_at : i < count_at book start → start + 1 + wide * i + wide ≤ length book → place_of wide book start i ≡ At (start + 1 + wide * i)
+  pub place_at : i < count_at book start → start + 1 + wide * i + wide ≤ length book → place_of wide book start i ≡ Some (start + 1 + wide * i)
   unfolding place_of
   place_at h l = rw (place_of, lt-leb (count_at book start) i h) (rw (le-ltb (length book) (start + 1 + wide * i + wide) l))
 
   -- where one stands it is whole
   within_by : (a b : Bool) {at : ℕ} → ltb (length book) (start + 1 + wide * i + wide) ≡ b
-      → elim a [ true ↦ Nothing | false ↦ elim b [ true ↦ Nothing | false ↦ At (start + 1 + wide * i) ] ] ≡ At at
+      → elim a [ true ↦ None | false ↦ elim b [ true ↦ None | false ↦ Some (start + 1 + wide * i) ] ] ≡ Some at
       → at + wide ≤ length book
   within_by true b s e = let z : ◌≡◌ {A = ℕ} 0 1 = cc in omega arith
   within_by false true s e = let z : ◌≡◌ {A = ℕ} 0 1 = cc in omega arith
@@ -40,7 +38,7 @@ module _ (wide : ℕ) (book : List ℕ) (start i : ℕ) where
       let same : start + 1 + wide * i ≡ at = cc in
       omega arith
 
-  pub place_within : {at : ℕ} → place_of wide book start i ≡ At at → at + wide ≤ length book
+  pub place_within : {at : ℕ} → place_of wide book start i ≡ Some at → at + wide ≤ length book
   unfolding place_of
   place_within e = within_by (leb (count_at book start) i) (ltb (length book) (start + 1 + wide * i + wide)) refl e
 
@@ -70,9 +68,9 @@ module _ {A : Type 0} (kind : Kind A) (book : List ℕ) where
   nth_none at (suc n) (suc i) h = nth_none (at + width kind) n i (omega arith)
 
   -- what stands at the place of the i-th entry, if it stands anywhere
-  abbrev pub standing : Place → Option A
-  standing (At at) = some (entry_at kind book at)
-  standing Nothing = none
+  abbrev pub standing : Option ℕ → Maybe A
+  standing (Some at) = some (entry_at kind book at)
+  standing None = none
 
   -- the i-th entry of a whole section is the i-th of its values
   pub standing_value : (start i : ℕ) → past kind book start ≤ length book

@@ -1,9 +1,8 @@
 -- A section, for any kind of entry: what was written is read back, what was read is written again, and nothing of it is at fault exactly if
 -- it is whole, its count in range, and its values have none of their faults. Assumes nothing.
-use Rattle.std.specs.Prelude.{◌≡◌, false, take}
+use Rattle.std.specs.Prelude.{◌≡◌, false, take, Option, Some, None, Ok}
 use Rattle.std.proofs.Math.Path.{refl, sym, ap}
 use Rattle.std.proofs.Common.{◌∙◌, add-one, take-append-drop}
-use Rattle.std.proofs.Math.Option.{Option, some, none}
 use mathlib.Core.List.{List, [], ◌∷◌, ◌++◌, append_assoc}
 use Prim.Native.Nat.{ℕ, zero, suc, ◌+◌, ◌*◌, ◌≤◌, ◌<◌}
 use Rattle.std.proofs.Math.Nat.{mul-suc}
@@ -18,10 +17,6 @@ use Rattle.book.specs.Promises.{Bytes, AllSound}
 use Rattle.book.specs.Laws.First.{not_faulty, no_fault, placed_sound}
 use Rattle.book.specs.Laws.Codec.{after, head_at, tail_at, Fit, fields_length, fields_read, fields_write, fields_fit}
 use Rattle.book.specs.declared.Fault.TheVariants as fault
-use Rattle.book.specs.declared.Amiss.TheVariants as amiss
-use Rattle.book.specs.declared.Look.TheVariants.{Sound}
-use Rattle.book.specs.declared.Before.{Before}
-use Rattle.book.specs.declared.Before.TheVariants.{Nothing, Entry}
 
 -- a value and its fields; `own` says that it has these fields and no others
 pub record Codec {A : Type 0} (kind : Kind A) (fields : A → List ℕ) : Type 1 where
@@ -61,7 +56,7 @@ module _ {A : Type 0} (kind : Kind A) (fields : A → List ℕ) (codec : Codec k
   pub entries_write : (book : List ℕ) (at n : ℕ) → Bytes book → at + width kind * n ≤ length book
       → joined bytes_for (entries_at kind book at n) ≡ take (width kind * n) (drop at book)
   unfolding joined entries_at
-  entries_write book at zero bytes h = let none : width kind * 0 ≡ 0 = omega arith in rw none
+  entries_write book at zero bytes h = let None : width kind * 0 ≡ 0 = omega arith in rw None
   entries_write book at (suc n) bytes h =
       let more = mul-suc (width kind) n in
       let far : width kind * suc n ≡ width kind + width kind * n = omega arith in
@@ -122,9 +117,9 @@ module _ {A : Type 0} (kind : Kind A) (fields : A → List ℕ) (codec : Codec k
   -- each value has none of its faults, beside the one before it
   unfoldable pub Faultless : ℕ → Option A → List A → Type 0
   Faultless listed before [] = Unit
-  Faultless listed before (x ∷ vs) = (kind.faults listed before x ≡ amiss.Nothing) × Faultless listed (some x) vs
+  Faultless listed before (x ∷ vs) = (kind.faults listed before x ≡ Ok tt) × Faultless listed (Some x) vs
 
-  pub entries_sound : (book : List ℕ) (listed : ℕ) (before : Before) (at n : ℕ) → at ≤ length book
+  pub entries_sound : (book : List ℕ) (listed : ℕ) (before : Option ℕ) (at n : ℕ) → at ≤ length book
       → AllSound (in_turn (entry_look kind book listed) (width kind) before at n)
       → (at + width kind * n ≤ length book) × Faultless listed (prior (entry_at kind book) before) (entries_at kind book at n)
   unfolding Each in_turn entries_at entry_look Faultless
@@ -132,10 +127,10 @@ module _ {A : Type 0} (kind : Kind A) (fields : A → List ℕ) (codec : Codec k
   entries_sound book listed before at (suc n) h s =
       let here = not_faulty _ _ _ _ s.0 in
       let whole = ltb-false (length book) (at + width kind) here.0 in
-      let next = entries_sound book listed (Entry at) (at + width kind) n whole s.1 in
+      let next = entries_sound book listed (Some at) (at + width kind) n whole s.1 in
       (omega (arith, next.0, mul-suc (width kind) n), (placed_sound _ _ _ here.1, next.1))
 
-  pub sound_entries : (book : List ℕ) (listed : ℕ) (before : Before) (at n : ℕ) → at + width kind * n ≤ length book
+  pub sound_entries : (book : List ℕ) (listed : ℕ) (before : Option ℕ) (at n : ℕ) → at + width kind * n ≤ length book
       → Faultless listed (prior (entry_at kind book) before) (entries_at kind book at n)
       → AllSound (in_turn (entry_look kind book listed) (width kind) before at n)
   unfolding Each in_turn entries_at entry_look Faultless
@@ -144,26 +139,26 @@ module _ {A : Type 0} (kind : Kind A) (fields : A → List ℕ) (codec : Codec k
       let more = mul-suc (width kind) n in
       let whole : at + width kind ≤ length book = omega arith in (
         no_fault _ fault.Short _ _ (le-ltb (length book) (at + width kind) whole) (ap (placed kind.widths at) s.0),
-        sound_entries book listed (Entry at) (at + width kind) n (omega arith) s.1,
+        sound_entries book listed (Some at) (at + width kind) n (omega arith) s.1,
       )
 
   -- a section without fault
   pub record SectionSound (book : List ℕ) (listed at : ℕ) : Type 0 where
     pub in_range : kind.out_of_range (count_at book at) ≡ false
     pub whole : past kind book at ≤ length book
-    pub values : Faultless listed none (values_at kind book at)
+    pub values : Faultless listed None (values_at kind book at)
 
   pub section_sound : (book : List ℕ) (listed at : ℕ) → AllSound (section_looks kind book listed at) → SectionSound book listed at
   unfolding Each section_looks count_look past
   section_sound book listed at s =
       let count = not_faulty _ _ _ _ s.0 in
-      let rest = entries_sound book listed Nothing (at + 1) (count_at book at) (ltb-false (length book) (at + 1) count.0) s.1 in
+      let rest = entries_sound book listed None (at + 1) (count_at book at) (ltb-false (length book) (at + 1) count.0) s.1 in
       record { in_range = (not_faulty _ _ _ _ count.1).0; whole = rest.0; values = rest.1 }
 
   pub sound_section : (book : List ℕ) (listed at : ℕ) → SectionSound book listed at → AllSound (section_looks kind book listed at)
   unfolding Each section_looks count_look past
   sound_section book listed at s =
       let whole : at + 1 ≤ length book = omega (arith, s.whole) in (
-        no_fault _ fault.Short at _ (le-ltb (length book) (at + 1) whole) (no_fault _ kind.count_fault at Sound s.in_range refl),
-        sound_entries book listed Nothing (at + 1) (count_at book at) s.whole s.values,
+        no_fault _ fault.Short at _ (le-ltb (length book) (at + 1) whole) (no_fault _ kind.count_fault at (Ok tt) s.in_range refl),
+        sound_entries book listed None (at + 1) (count_at book at) s.whole s.values,
       )

@@ -1,36 +1,36 @@
 -- The loop's invariant: the whole section comes to what is left of it from the cursor on. Assumes nothing.
-use mathlib.Core.Path.{◌≡◌, sym, ap, ◌∙◌}
-use Prim.Native.Nat.{◌-◌}
+use mathlib.Core.Path.{◌≡◌, sym, ap, ap₂, ◌∙◌}
+use Prim.Native.Nat.{ℕ, ◌-◌, ◌+◌}
 use native.Mathlib.Omega.{arith}
 use Rattle.book.specs.Inner.Steps.{look_in, width_in, past_entry}
 use Rattle.book.specs.declared.Cursor.{Cursor}
-use Rattle.book.proofs.Looks.{step_none, step_faulty, step_sound, whole_entry}
+use Rattle.book.proofs.Looks.{passed_up, step_none, step_faulty, step_sound, whole_entry}
 use Rattle.book.proofs.sections.entries.Invariants.{steps}
 use Rattle.book.proofs.sections.entries.Goals as goal
 
-pub returns-in-Faulty : goal.returns-in-Faulty
-returns-in-Faulty c = let a = c.args in
-    let look = c.look_entry in
-    sym (c.loop-left.invariant.1
-    ∙ step_faulty (look_in a.form a.section a.book.now a.listed) (width_in a.form a.section) c.loop-left.cursor c.loop-left.left _ _
-    c.loop-left-test.true (sym look.ensures ∙ c.in-Faulty.is))
-
 pub past-cursor-requires : goal.past-cursor-requires
 past-cursor-requires c = let a = c.args in
-    let h = whole_entry a.form a.section a.book.now a.listed c.loop-left.cursor.before c.loop-left.cursor.at
-    (sym c.look_entry.ensures ∙ c.in-Sound.is) in
-    omega (arith, c.loop-left.invariant.0)
+    let h = whole_entry a.form a.section a.book.now a.listed c.loop-i.cursor.before c.loop-i.cursor.at (sym c.look_entry.ensures ∙ c.in_ok-look_entry.was) in
+    omega (arith, c.loop-i.invariant.0)
 
-pub loop-left-preserved : goal.loop-left-preserved
-loop-left-preserved c = let a = c.args in
-    let n = c.loop-left.left in
-    let passed = step_sound (look_in a.form a.section a.book.now a.listed) (width_in a.form a.section) c.loop-left.cursor n
-    c.loop-left-test.true (sym c.look_entry.ensures ∙ c.in-Sound.is) in
-    let moved : past_entry c.loop-left.cursor (width_in a.form a.section) ≡ c.past-cursor.result =
-    ap (past_entry c.loop-left.cursor) (sym c.loop-left.invariant.0) ∙ sym c.past-cursor.ensures in
-    (c.loop-left.invariant.0, c.loop-left.invariant.1 ∙ passed ∙ ap (λ (x : Cursor). steps a.book.now a.form a.section a.listed x (n - 1)) moved)
+pub loop-i-preserved : goal.loop-i-preserved
+loop-i-preserved c = let a = c.args in
+    let l = c.loop-i in
+    let passed = step_sound (look_in a.form a.section a.book.now a.listed) (width_in a.form a.section) l.cursor (a.count - l.i)
+    (omega (arith, c.loop-i-test.true)) (sym c.look_entry.ensures ∙ c.in_ok-look_entry.was) in
+    let moved : past_entry l.cursor (width_in a.form a.section) ≡ c.past-cursor.result =
+    ap (past_entry l.cursor) (sym l.invariant.0) ∙ sym c.past-cursor.ensures in
+    let less : a.count - l.i - 1 ≡ a.count - (l.i + 1) = omega arith in
+    (l.invariant.0, l.invariant.1 ∙ passed ∙ ap₂ (λ (x : Cursor) (n : ℕ). steps a.book.now a.form a.section a.listed x n) moved less)
+
+pub returns-in_err-look_entry : goal.returns-in_err-look_entry
+returns-in_err-look_entry c = let a = c.args in
+    passed_up _ c.from_residual.ensures.1
+    ∙ sym (c.loop-i.invariant.1
+    ∙ step_faulty (look_in a.form a.section a.book.now a.listed) (width_in a.form a.section) c.loop-i.cursor (a.count - c.loop-i.i) _
+    (omega (arith, c.loop-i-test.true)) (sym c.look_entry.ensures ∙ c.in_err-look_entry.was))
 
 pub returns : goal.returns
 returns c = let a = c.args in
-    sym (c.loop-left.invariant.1
-    ∙ step_none (look_in a.form a.section a.book.now a.listed) (width_in a.form a.section) c.loop-left.cursor c.loop-left.left c.loop-left-test.false)
+    sym (c.loop-i.invariant.1
+    ∙ step_none (look_in a.form a.section a.book.now a.listed) (width_in a.form a.section) c.loop-i.cursor (a.count - c.loop-i.i) (omega (arith, c.loop-i-test.false)))

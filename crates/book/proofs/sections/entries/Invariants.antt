@@ -1,20 +1,18 @@
 -- The loop's invariant: the whole section comes to what is left of it from the cursor on. Assumes nothing.
 use mathlib.Core.Path.{◌≡◌}
 use mathlib.Core.List.{List}
-use Prim.Native.Nat.{ℕ}
+use Prim.Native.Nat.{ℕ, ◌-◌}
+use Rattle.std.specs.Prelude.{Result}
 use Rattle.book.specs.Inner.Steps.{look_in, width_in, step_from, start_at}
 use Rattle.book.specs.declared.Form.{Form}
 use Rattle.book.specs.declared.Section.{Section}
 use Rattle.book.specs.declared.Cursor.{Cursor}
-use Rattle.book.specs.declared.Step.{Step}
+use Rattle.book.specs.declared.FaultAt.{FaultAt}
 use Rattle.book.proofs.sections.entries.Given as goal
 
 -- the entries from a cursor on
-abbrev pub steps : List ℕ → Form → Section → ℕ → Cursor → ℕ → Step
+abbrev pub steps : List ℕ → Form → Section → ℕ → Cursor → ℕ → Result ℕ FaultAt
 steps book form section listed = step_from (look_in form section book listed) (width_in form section)
 
-abbrev pub invariant-loop-left : goal.invariant-loop-left
-invariant-loop-left l = (l.wide ≡ width_in l.form l.section) × (steps l.book l.form l.section l.listed (start_at l.at) l.count ≡ steps l.book l.form l.section l.listed l.cursor l.left)
-
-abbrev pub decreases-loop-left : goal.decreases-loop-left
-decreases-loop-left l = l.left
+abbrev pub invariant-loop-i : goal.invariant-loop-i
+invariant-loop-i l = (l.wide ≡ width_in l.form l.section) × (steps l.book l.form l.section l.listed (start_at l.at) l.count ≡ steps l.book l.form l.section l.listed l.cursor (l.count - l.i))

@@ -5,9 +5,8 @@ use Prim.Native.Nat.{ℕ, ◌+◌}
 use lib.Dec.{ltb}
 use lib.ListN.{length}
 use Rattle.book.specs.Layout.{policy_widths, form_has_editions}
-use Rattle.book.specs.Reading.{policies_of, width, entry_look, fields_at, past_listed, by_made, placed}
+use Rattle.book.specs.Reading.{policies_of, width, entry_look, fields_at, past_listed, by_made, placed, refused}
 use Rattle.book.specs.declared.Fault.TheVariants.{Short, Task, Policy}
-use Rattle.book.specs.declared.Look.TheVariants.{Faulty}
 use Rattle.book.specs.Laws.First.{amiss_here, past_amiss, faulty_at, past_fault}
 use Rattle.book.proofs.Fields.{policy_field}
 use Rattle.book.proofs.sections.look_policy.Goals as goal
@@ -33,15 +32,15 @@ pub returns-in-Err : goal.returns-in-Err
 unfolding entry_look fields_at
 returns-in-Err c = let a = c.args in
     past_fault Short _ (short (goal.at.returns-in-Err c).After-cut) c.if-cut.false
-    (ap (Faulty (Policy c.in-Err.refusal)) (ap (λ (n : ℕ). a.at + n) c.policy_offset.ensures ∙ (policy_field (form_has_editions a.form) c.in-Err.refusal a.at).1)
+    (ap (refused (Policy c.in-Err.refusal)) (ap (λ (n : ℕ). a.at + n) c.policy_offset.ensures ∙ (policy_field (form_has_editions a.form) c.in-Err.refusal a.at).1)
     ∙ ap (placed (policy_widths (form_has_editions a.form)) a.at)
     (past_amiss Task 0 (c.past_listed.ensures ∙ ap (past_listed _) c.four.ensures) c.if-past_listed.false
     (ap by_made (sym c.in-Err.is ∙ c.policy_from.ensures))))
 
-pub returns-in-Ok : goal.returns-in-Ok
+pub returns : goal.returns
 unfolding entry_look fields_at
-returns-in-Ok c = let a = c.args in
-    past_fault Short _ (short (goal.at.returns-in-Ok c).After-cut) c.if-cut.false
+returns c = let a = c.args in
+    past_fault Short _ (short (goal.at.returns c).After-cut) c.if-cut.false
     (ap (placed (policy_widths (form_has_editions a.form)) a.at)
     (past_amiss Task 0 (c.past_listed.ensures ∙ ap (past_listed _) c.four.ensures) c.if-past_listed.false
-    (ap by_made (sym c.in-Ok.is ∙ c.policy_from.ensures))))
+    (ap by_made (sym c.in_default.is ∙ c.policy_from.ensures))))

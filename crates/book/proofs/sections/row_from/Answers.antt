@@ -1,6 +1,7 @@
 -- The numbers that stand there are the row's fields, in every form. Assumes nothing.
 use mathlib.Core.Path.{◌≡◌, sym, ap, ◌∙◌}
 use mathlib.Core.List.{List}
+use mathlib.Core.Logic.{inl, inr}
 use Prim.Native.Nat.{ℕ, ◌+◌}
 use native.Mathlib.Nat.{add_assoc}
 use Rattle.book.specs.Reading.{number, fields_at, rows_of, entry_at}
@@ -27,10 +28,8 @@ returns-in-Old c = let a = c.args in
 
 pub returns-in-Persons : goal.returns-in-Persons
 returns-in-Persons c = let a = c.args in
-    new_row a.book.now a.at c.four-staff.ensures c.four-second.ensures c.four.ensures
-    ∙ ap (λ (form : Form). entry_at (rows_of form) a.book.now a.at) (sym c.in-Persons.is)
-
-pub returns-in-Editions : goal.returns-in-Editions
-returns-in-Editions c = let a = c.args in
-    new_row a.book.now a.at c.four-staff.ensures c.four-second.ensures c.four-in-Editions.ensures
-    ∙ ap (λ (form : Form). entry_at (rows_of form) a.book.now a.at) (sym c.in-Editions.is)
+    let here = new_row a.book.now a.at c.four-staff.ensures c.four-second.ensures c.four.ensures in
+    elim c.in-Persons.is [
+      | inl e ↦ here ∙ ap (λ (form : Form). entry_at (rows_of form) a.book.now a.at) (sym e)
+      | inr e ↦ here ∙ ap (λ (form : Form). entry_at (rows_of form) a.book.now a.at) (sym e)
+    ]

@@ -2,15 +2,16 @@
 use mathlib.Core.Path.{sym, ap, ◌∙◌}
 use Prim.Native.Nat.{◌+◌}
 use Rattle.book.specs.Inner.Steps.{look_in, width_in, step_from, start_at}
-use Rattle.book.proofs.Looks.{section_faulty, section_sound}
+use Rattle.book.proofs.Looks.{passed_up, section_faulty, section_sound}
 use Rattle.book.proofs.sections.section_step.Goals as goal
 
-pub returns-in-Faulty : goal.returns-in-Faulty
-returns-in-Faulty c = let a = c.args in
-    sym (section_faulty a.form a.section a.book.now a.listed a.at _ _ (sym c.look_count.ensures ∙ c.in-Faulty.is))
+pub returns-in_err-look_count : goal.returns-in_err-look_count
+returns-in_err-look_count c = let a = c.args in
+    passed_up _ c.from_residual.ensures.1
+    ∙ sym (section_faulty a.form a.section a.book.now a.listed a.at _ (sym c.look_count.ensures ∙ c.in_err-look_count.was))
 
-pub returns-in-Sound : goal.returns-in-Sound
-returns-in-Sound c = let a = c.args in
+pub returns : goal.returns
+returns c = let a = c.args in
     c.entries.ensures
     ∙ ap (step_from (look_in a.form a.section a.book.now a.listed) (width_in a.form a.section) (start_at (a.at + 1))) c.count_at.ensures
-    ∙ sym (section_sound a.form a.section a.book.now a.listed a.at (sym c.look_count.ensures ∙ c.in-Sound.is))
+    ∙ sym (section_sound a.form a.section a.book.now a.listed a.at (sym c.look_count.ensures ∙ c.in_ok-look_count.was))
