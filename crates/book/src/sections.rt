@@ -335,28 +335,21 @@ pub fn policy_field(refusal: Refusal) -> usize
     ensures { result ≡ field_of refusal }
 {
     match refusal {
-        Refusal::Rows => 0,
-        Refusal::Task => 0,
+        Refusal::Rows | Refusal::Task | Refusal::Absence => 0,
         Refusal::Away => 1,
         Refusal::Crews => 2,
         Refusal::Size => 3,
-        Refusal::Absence => 0,
         Refusal::Edition => 4,
     }
 }
 
-// How far into a policy that field starts.
+// How far into a policy that field starts: past P each field is one byte.
 fn policy_offset(refusal: Refusal) -> usize
     ensures { result ≡ field_place (policy_widths true) 0 (field_of refusal) }
 {
-    match refusal {
-        Refusal::Rows => 0,
-        Refusal::Task => 0,
-        Refusal::Away => 4,
-        Refusal::Crews => 5,
-        Refusal::Size => 6,
-        Refusal::Absence => 0,
-        Refusal::Edition => 7,
+    match policy_field(refusal) {
+        0 => 0,
+        field => TASK_WIDTH - 1 + field,
     }
 }
 
