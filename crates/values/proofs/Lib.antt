@@ -1,3 +1,4 @@
+pub mod Made
 pub mod Looks
 pub mod Parts
 pub mod Puts

@@ -1,7 +1,7 @@
 -- Values and what writing them comes to, by the published number, the place and the buffer: one table, one fact, by running the definitions. It
 -- pins what definition and code could change together: every number, every limit at both ends, the order of faults, room that just does, and
 -- that nothing is written but the book.
-use Rattle.std.specs.Prelude.{◌≡◌, refl, List, [], ◌∷◌, ◌++◌, map, ℕ, length, replicate}
+use Rattle.std.specs.Prelude.{◌≡◌, refl, List, [], ◌∷◌, ◌++◌, map, ℕ, length, replicate, Result, Ok, Err}
 use Rattle.sets.specs.Arrays.{tabulate}
 use Rattle.roster.specs.Refusals.{policy_ruling}
 use Rattle.roster.specs.declared.Policy.{Policy}
@@ -14,8 +14,7 @@ use Rattle.book.specs.declared.Row.{Row}
 use Rattle.values.specs.Values.{contents_for, values_for}
 use Rattle.values.specs.Writing.{unwritten_number, value_looks, first_of}
 use Rattle.values.specs.Promises.{outcome_of}
-use Rattle.values.specs.declared.Wrote.{Wrote}
-use Rattle.values.specs.declared.Wrote.TheVariants.{Written, Refused}
+use Rattle.values.specs.declared.NotWritten.{NotWritten}
 
 -- ---- how the table is written
 
@@ -23,9 +22,9 @@ pub data Answer : Type 0 where
   written : (long : ℕ) (buffer : List ℕ) → Answer
   refused : (number place : ℕ) (buffer : List ℕ) → Answer
 
-abbrev pub answer_by : Wrote → List ℕ → Answer
-answer_by (Written n) buffer = written n buffer
-answer_by (Refused why place) buffer = refused (unwritten_number why) place buffer
+abbrev pub answer_by : Result ℕ NotWritten → List ℕ → Answer
+answer_by (Ok n) buffer = written n buffer
+answer_by (Err e) buffer = refused (unwritten_number e.why) e.place buffer
 
 abbrev pub answer : Contents → List ℕ → Answer
 answer v old = answer_by (outcome_of v old).reply (outcome_of v old).after

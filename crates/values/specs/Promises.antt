@@ -7,8 +7,7 @@
 -- "12 to 18 and 2 to 5 as in the reader, in reading order", and 25: `as_in_the_reader`, `wide_refused`, `sound_iff_admitted`
 -- "with place 0; then 20, the buffer is too short": in `Writes` itself; `numbers`, `never_short_never_excess`, `longest-enough`
 -- every input has one reply, and one buffer after it: `writes_allowed`, `writes_same`
-use Rattle.std.proofs.Math.Option.{Option, some, none}
-use Rattle.std.specs.Prelude.{◌⊎◌, ◌≢◌, Bool, true, false, ◌≡◌, List, [], ◌∷◌, ◌++◌, ℕ, ◌^◌, ◌≤◌, ◌<◌, eqb, ltb, length, drop}
+use Rattle.std.specs.Prelude.{◌⊎◌, ◌≢◌, Bool, true, false, ◌≡◌, List, [], ◌∷◌, ◌++◌, ℕ, ◌^◌, ◌≤◌, ◌<◌, eqb, ltb, length, drop, Option, Some, None, Result, Ok}
 use Rattle.roster.specs.declared.Policy.{Policy}
 use Rattle.roster.specs.declared.Refusal.TheVariants as refusal
 use Rattle.book.specs.Layout.{Contents, OwnEdition, form_has_persons, form_has_editions, bytes_of, Each}
@@ -18,12 +17,10 @@ use Rattle.book.specs.Faults.{EntryNumber}
 use Rattle.book.specs.declared.Form.TheVariants.{Old}
 use Rattle.book.specs.declared.Fault.{Fault}
 use Rattle.book.specs.declared.Fault.TheVariants as fault
-use Rattle.book.specs.declared.Amiss.{Amiss}
-use Rattle.book.specs.declared.Amiss.TheVariants as amiss
-use Rattle.values.specs.Writing.{value_looks, section_in, fault_in}
+use Rattle.values.specs.Writing.{not_written, value_looks, section_in, fault_in}
 use Rattle.values.specs.declared.Unwritten.TheVariants as unwritten
-use Rattle.values.specs.declared.Wrote.{Wrote}
-use Rattle.values.specs.declared.Wrote.TheVariants as wrote
+use Rattle.values.specs.declared.NotWritten.{NotWritten}
+use Rattle.book.specs.declared.Amiss.{Amiss}
 
 -- ---- values
 
@@ -61,13 +58,13 @@ TellsForm v = v.form ≡ Old → (length v.codes ≢ 200) × (length v.codes ≢
 
 -- the reply, and the buffer after it
 pub record Outcome : Type 0 where
-  pub reply : Wrote
+  pub reply : Result ℕ NotWritten
   pub after : List ℕ
 
 abbrev pub outcome_by : Option Fault → Bool → List ℕ → List ℕ → Outcome
-outcome_by (some f) short book old = record { reply = wrote.Refused (unwritten.Fault f) 0; after = old }
-outcome_by none true book old = record { reply = wrote.Refused unwritten.Room 0; after = old }
-outcome_by none false book old = record { reply = wrote.Written (length book); after = book ++ drop (length book) old }
+outcome_by (Some f) short book old = record { reply = not_written (unwritten.Fault f) 0; after = old }
+outcome_by None true book old = record { reply = not_written unwritten.Room 0; after = old }
+outcome_by None false book old = record { reply = Ok (length book); after = book ++ drop (length book) old }
 
 abbrev pub outcome_of : Contents → List ℕ → Outcome
 outcome_of v old = outcome_by (fault_in v) (ltb (length old) (length (bytes_of v))) (bytes_of v) old
@@ -75,14 +72,14 @@ outcome_of v old = outcome_by (fault_in v) (ltb (length old) (length (bytes_of v
 -- ---- which refusals
 
 -- what is looked at before s, d, t and the edition of a policy that has these before it: codes, rows, the count, those policies, and its own P
-abbrev pub looks_to : Contents → List Policy → Policy → List Amiss
+abbrev pub looks_to : Contents → List Policy → Policy → List (Result Unit Amiss)
 looks_to v before p =
     let listed = length v.codes in
     section_in codes 0 v.codes
     ++ (section_in (rows_of v.form) listed v.rows
-    ++ (amiss_if ((policies_of v.form).out_of_range (length v.policies)) (policies_of v.form).count_fault 0 amiss.Nothing
-    ∷ (value_looks (policies_of v.form) listed none before
-    ++ (amiss_if (past_listed listed p.task) fault.Task 0 (amiss_if (eqb p.task 0) (fault.Policy refusal.Task) 0 amiss.Nothing) ∷ []))))
+    ++ (amiss_if ((policies_of v.form).out_of_range (length v.policies)) (policies_of v.form).count_fault 0 (Ok tt)
+    ∷ (value_looks (policies_of v.form) listed None before
+    ++ (amiss_if (past_listed listed p.task) fault.Task 0 (amiss_if (eqb p.task 0) (fault.Policy refusal.Task) 0 (Ok tt)) ∷ []))))
 
 -- a number that values are refused with: that of a count or an entry, or 20
 abbrev pub WriterNumber : ℕ → Type 0

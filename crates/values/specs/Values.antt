@@ -1,5 +1,5 @@
 -- Requests 01, 04 and 08: the values of a book, all at once, in memory. Nothing here is proved: these are definitions, and they run.
-use Rattle.std.specs.Prelude.{List, ℕ, length, get_or}
+use Rattle.std.specs.Prelude.{List, ℕ, length, get_or, Result, Ok, Err}
 use Rattle.sets.specs.Arrays.{tabulate}
 use Rattle.roster.specs.Limits.{row_limit}
 use Rattle.roster.specs.declared.Policy.{Policy}
@@ -7,11 +7,11 @@ use Rattle.book.specs.Layout.{Contents, row_fields, policy_fields, form_has_pers
 use Rattle.book.specs.Reading.{row_with, policy_with, form_of, read_of}
 use Rattle.book.specs.Parts.{contents_of}
 use Rattle.book.specs.Promises.{nothing}
-use Rattle.book.specs.declared.Reading.{Reading}
-use Rattle.book.specs.declared.Reading.TheVariants.{Good, Refused}
 use Rattle.book.specs.declared.Form.{Form}
 use Rattle.book.specs.declared.Row.{Row}
 use Rattle.values.specs.declared.Values.{Values}
+use Rattle.book.specs.declared.Starts.{Starts}
+use Rattle.book.specs.declared.FaultAt.{FaultAt}
 
 -- what stands where no row and no policy is
 abbrev pub nobody : Row
@@ -53,9 +53,9 @@ abbrev pub no_values : Form → Values
 no_values form = values_for (nothing form)
 
 -- "a refused book has none" but its form
-abbrev pub contents_by : List ℕ → Reading → Contents
-contents_by book (Good starts) = contents_of book
-contents_by book (Refused fault at) = nothing (form_of book)
+abbrev pub contents_by : List ℕ → Result Starts FaultAt → Contents
+contents_by book (Ok starts) = contents_of book
+contents_by book (Err e) = nothing (form_of book)
 
 -- the values of these bytes
 unfoldable pub values_of : List ℕ → Values

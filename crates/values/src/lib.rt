@@ -9,10 +9,10 @@ mod put;
 ghost use Rattle.std.specs.Prelude.{◌≡◌};
 ghost use Rattle.book.specs.declared.Form.TheVariants as old;
 ghost use Rattle.values.specs.Values.{contents_for, no_values, values_of};
-ghost use Rattle.values.specs.Writing.{longest, unwritten_number, Writes};
+ghost use Rattle.values.specs.Writing.{not_written, longest, unwritten_number, Writes};
 
 use book::{Fault, Form, PERMISSIONS, POLICIES, Row, Section};
-use gather::{all_codes, all_policies, all_rows, nobody, unasked};
+use gather::{UNASKED, all_codes, all_policies, all_rows};
 use look::first_fault;
 use put::{length_of, put_lead, put_section};
 use roster::Policy;
@@ -21,7 +21,7 @@ use roster::Policy;
 pub const LONGEST: usize = 1092;
 
 // What a book says. As many of each list are meant as its count says; what stands past the count plays no part, and neither does a field that the
-// form has not.
+// form has not. Arrays with counts beside, and no Vec: a Vec's memory may run out, and `of_book` and `none` cannot fail.
 #[derive(Clone, Copy)]
 pub struct Values {
     pub form: Form,
@@ -40,18 +40,11 @@ pub enum Unwritten {
     Room,
 }
 
-// The reply to writing: the book's length, or why there is none, with the place 0.
+// Why a book is not written, with the place 0: there is no place in a book that is not written.
 #[derive(Clone, Copy)]
-pub enum Wrote {
-    Written(usize),
-    Refused(Unwritten, usize),
-}
-
-// The first fault of values, if there is one. Of which field it is plays no part: there is no place in a book that is not written.
-#[derive(Clone, Copy)]
-enum First {
-    Nothing,
-    Fault(Fault),
+pub struct NotWritten {
+    pub why: Unwritten,
+    pub place: usize,
 }
 
 impl Unwritten {
@@ -71,15 +64,13 @@ impl Values {
     pub fn none() -> Values
         ensures { result ≡ no_values old.Old }
     {
-        let rows = [nobody(); Policy::ROWS];
-        let policies = [unasked(); POLICIES];
         Values {
             form: Form::Old,
             codes: [0; PERMISSIONS],
             code_count: 0,
-            rows: rows,
+            rows: [Row::NOBODY; Policy::ROWS],
             row_count: 0,
-            policies: policies,
+            policies: [UNASKED; POLICIES],
             policy_count: 0,
         }
     }
@@ -101,35 +92,39 @@ pub fn of_book(book: &[u8]) -> Values
     let code_count = book::code_count(book);
     let policy_count = book::policy_count(book);
     Values {
-        form: form,
-        codes: codes,
-        code_count: code_count,
-        rows: rows,
+        form,
+        codes,
+        code_count,
+        rows,
         row_count: accounts.rows,
-        policies: policies,
-        policy_count: policy_count,
+        policies,
+        policy_count,
     }
 }
 
 // ---- writing
 
-// The book of these values at the front of a buffer, and its length. What is refused leaves the buffer as it was.
-pub fn write(values: Values, out: &mut [u8]) -> Wrote
+// Not written for this reason.
+fn not_written(why: Unwritten) -> Result<usize, NotWritten>
+    ensures { result ≡ not_written why 0 }
+{
+    Err(NotWritten { why, place: 0 })
+}
+
+// The book of these values at the front of a buffer, and its length, or why there is none. What is refused leaves the buffer as it was.
+pub fn write(values: Values, out: &mut [u8]) -> Result<usize, NotWritten>
     ensures written { Writes (contents_for values) out.old out.new result }
     ensures limit { LONGEST ≡ longest }
 {
-    match first_fault(values) {
-        First::Fault(fault) => {
-            return Wrote::Refused(Unwritten::Fault(fault), 0);
-        }
-        First::Nothing => {}
+    if let Err(fault) = first_fault(values) {
+        return not_written(Unwritten::Fault(fault));
     }
     if out.len() < length_of(values) {
-        return Wrote::Refused(Unwritten::Room, 0);
+        return not_written(Unwritten::Room);
     }
     let form = values.form;
     let codes = put_lead(out, form);
     let rows = put_section(out, codes, values, Section::Permissions);
     let policies = put_section(out, rows, values, Section::Rows);
-    Wrote::Written(put_section(out, policies, values, Section::Policies))
+    Ok(put_section(out, policies, values, Section::Policies))
 }

@@ -1,7 +1,6 @@
 // What is amiss with values, in reading order: a section's count, then its entries, each beside the one before. specs/Inner/Looks says what
 // each function answers.
-ghost use Rattle.std.specs.Prelude.{◌≡◌, ◌≤◌, ◌<◌, true};
-ghost use Rattle.std.proofs.Math.Option.{none};
+ghost use Rattle.std.specs.Prelude.{◌≡◌, ◌≤◌, ◌<◌, true, None};
 ghost use Rattle.roster.specs.Limits.{row_limit};
 ghost use Rattle.book.specs.Layout.{permission_limit, policy_limit};
 ghost use Rattle.book.specs.Reading.{policies};
@@ -10,7 +9,7 @@ ghost use Rattle.values.specs.Values.{policy_for, contents_for};
 ghost use Rattle.values.specs.Writing.{fault_in};
 ghost use Rattle.values.specs.Inner.Looks.{limit_in, count_of, code_in, row_in, policy_given, policy_in, lead_of, stays_at, look_at, entry_looks, section_looks, told, first_look};
 
-use crate::{First, Values};
+use crate::Values;
 use book::sections::{count_amiss, past_listed, policy_field, row_amiss};
 use book::{Amiss, Fault, Form, Row, Section};
 use roster::Policy;
@@ -62,11 +61,8 @@ fn of_first(policy: Policy) -> Policy
     ensures { result ≡ policy_for old.Old policy }
 {
     Policy {
-        task: policy.task,
-        away: policy.away,
-        crews: policy.crews,
-        size: policy.size,
         edition: 1,
+        ..policy
     }
 }
 
@@ -75,8 +71,7 @@ fn policy_for(form: Form, policy: Policy) -> Policy
     ensures { result ≡ policy_for form policy }
 {
     match form {
-        Form::Old => of_first(policy),
-        Form::Persons => of_first(policy),
+        Form::Old | Form::Persons => of_first(policy),
         Form::Editions => policy,
     }
 }
@@ -114,18 +109,21 @@ fn stays(values: Values, section: Section, i: usize) -> bool
 }
 
 // A permission's code.
-fn look_code(values: Values, i: usize) -> Amiss
+fn look_code(values: Values, i: usize) -> Result<(), Amiss>
     requires { i < limit_in Section.Permissions }
     ensures { result ≡ look_at values Section.Permissions i }
 {
     if stays(values, Section::Permissions, i) {
-        return Amiss::Field(Fault::Code, 0);
+        return Err(Amiss {
+            fault: Fault::Code,
+            field: 0,
+        });
     }
-    Amiss::Nothing
+    Ok(())
 }
 
 // A row.
-fn look_row(values: Values, i: usize) -> Amiss
+fn look_row(values: Values, i: usize) -> Result<(), Amiss>
     requires { i < limit_in Section.Rows }
     ensures { result ≡ look_at values Section.Rows i }
 {
@@ -138,26 +136,33 @@ fn look_row(values: Values, i: usize) -> Amiss
 }
 
 // A policy, where so many permissions are listed.
-fn policy_look(listed: usize, policy: Policy) -> Amiss
-    ensures { result ≡ (policies true).faults listed none policy }
+fn policy_look(listed: usize, policy: Policy) -> Result<(), Amiss>
+    ensures { result ≡ (policies true).faults listed None policy }
 {
     if past_listed(listed, policy.task) {
-        return Amiss::Field(Fault::Task, 0);
+        return Err(Amiss {
+            fault: Fault::Task,
+            field: 0,
+        });
     }
-    match Policy::new(
-        policy.task,
-        policy.away,
-        policy.crews,
-        policy.size,
-        policy.edition,
-    ) {
-        Err(refusal) => Amiss::Field(Fault::Policy(refusal), policy_field(refusal)),
-        Ok(_) => Amiss::Nothing,
+    let Policy {
+        task,
+        away,
+        crews,
+        size,
+        edition,
+    } = policy;
+    if let Err(refusal) = Policy::new(task, away, crews, size, edition) {
+        return Err(Amiss {
+            fault: Fault::Policy(refusal),
+            field: policy_field(refusal),
+        });
     }
+    Ok(())
 }
 
 // An entry of the section.
-fn look_value(values: Values, section: Section, i: usize) -> Amiss
+fn look_value(values: Values, section: Section, i: usize) -> Result<(), Amiss>
     requires { i < limit_in section }
     ensures { result ≡ look_at values section i }
 {
@@ -169,49 +174,34 @@ fn look_value(values: Values, section: Section, i: usize) -> Amiss
 }
 
 // A section's entries, as many as are meant.
-fn look_values(values: Values, section: Section, count: usize) -> First
+fn look_values(values: Values, section: Section, count: usize) -> Result<(), Fault>
     requires { (count ≡ count_of values section) × (count ≤ limit_in section) }
     ensures { result ≡ first_look (entry_looks values section) }
 {
-    let mut i = 0;
-    while i < count {
-        match look_value(values, section, i) {
-            Amiss::Field(fault, _) => {
-                return First::Fault(fault);
-            }
-            Amiss::Nothing => {}
+    for i in 0..count {
+        if let Err(amiss) = look_value(values, section, i) {
+            return Err(amiss.fault);
         }
-        i += 1;
     }
-    First::Nothing
+    Ok(())
 }
 
 // A section: its count, then its entries. A count out of range is told before any entry is looked at.
-fn look_section(values: Values, section: Section) -> First
+fn look_section(values: Values, section: Section) -> Result<(), Fault>
     ensures { result ≡ first_look (section_looks values section) }
 {
     let count = count_of(values, section);
-    match count_amiss(section, count) {
-        Amiss::Field(fault, _) => First::Fault(fault),
-        Amiss::Nothing => look_values(values, section, count),
+    if let Err(amiss) = count_amiss(section, count) {
+        return Err(amiss.fault);
     }
+    look_values(values, section, count)
 }
 
-// The first fault of all.
-pub(crate) fn first_fault(values: Values) -> First
+// The first fault of all. Of which field it is plays no part.
+pub(crate) fn first_fault(values: Values) -> Result<(), Fault>
     ensures { result ≡ told (fault_in (contents_for values)) }
 {
-    match look_section(values, Section::Permissions) {
-        First::Fault(fault) => {
-            return First::Fault(fault);
-        }
-        First::Nothing => {}
-    }
-    match look_section(values, Section::Rows) {
-        First::Fault(fault) => {
-            return First::Fault(fault);
-        }
-        First::Nothing => {}
-    }
+    look_section(values, Section::Permissions)?;
+    look_section(values, Section::Rows)?;
     look_section(values, Section::Policies)
 }

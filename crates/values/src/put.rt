@@ -53,8 +53,7 @@ fn put_person(out: &mut [u8], at: usize, form: Form, person: u32) -> usize
 {
     match form {
         Form::Old => at,
-        Form::Persons => put_four(out, at, text::wide(person)),
-        Form::Editions => put_four(out, at, text::wide(person)),
+        Form::Persons | Form::Editions => put_four(out, at, text::wide(person)),
     }
 }
 
@@ -72,8 +71,7 @@ fn put_edition(out: &mut [u8], at: usize, form: Form, edition: u32) -> usize
     ensures { Appended (edition_bytes (form_has_editions form) edition) out.old at out.new result }
 {
     match form {
-        Form::Old => at,
-        Form::Persons => at,
+        Form::Old | Form::Persons => at,
         Form::Editions => put(out, at, low(text::wide(edition))),
     }
 }
@@ -109,10 +107,8 @@ pub(crate) fn put_section(out: &mut [u8], at: usize, values: Values, section: Se
 {
     let count = count_of(values, section);
     let mut next = put(out, at, low(count as u64));
-    let mut i = 0;
-    while i < count {
+    for i in 0..count {
         next = put_entry(out, next, values, section, i);
-        i += 1;
     }
     next
 }

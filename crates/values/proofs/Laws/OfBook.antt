@@ -1,17 +1,15 @@
 -- "reading any good book and writing it gives the same bytes", and what was written gives its values back. Assumes nothing.
-use Rattle.std.specs.Prelude.{◌≡◌, refl, List, [], ◌∷◌, ◌++◌, ℕ, zero, suc, ◌≤◌, length, get_or, take, drop}
+use Rattle.std.specs.Prelude.{◌≡◌, refl, List, [], ◌∷◌, ◌++◌, ℕ, zero, suc, ◌≤◌, length, get_or, take, drop, Result, Ok}
 use Rattle.std.proofs.Common.{sym, ap, ap₂, ◌∙◌, subst, arith}
 use Rattle.sets.specs.Arrays.{tabulate}
 use Rattle.roster.specs.Limits.{row_limit}
 use Rattle.roster.specs.declared.Policy.{Policy}
 use Rattle.book.specs.Layout.{Contents, form_has_persons, form_has_editions, permission_limit, policy_limit, bytes_of, Own, OwnEdition, Each, Admitted}
-use Rattle.book.specs.Reading.{form_of, read_of}
+use Rattle.book.specs.Reading.{form_of, read_of, refused}
 use Rattle.book.specs.Parts.{contents_of}
 use Rattle.book.specs.Promises.{Bytes}
 use Rattle.book.proofs.Laws.Books.{good_layout}
 use Rattle.book.specs.declared.Fault.{Fault}
-use Rattle.book.specs.declared.Reading.{Reading}
-use Rattle.book.specs.declared.Reading.TheVariants as read
 use Rattle.book.specs.declared.Form.{Form}
 use Rattle.book.specs.declared.Form.TheVariants.{Old, Persons, Editions}
 use Rattle.book.specs.declared.Row.{Row}
@@ -22,8 +20,8 @@ use Rattle.values.specs.Promises.{Typed}
 use Rattle.values.specs.Laws.Admitted.{sound_iff_admitted, admitted_none}
 use Rattle.values.specs.Laws.Meant.{contents_of_lem}
 use Rattle.values.specs.Laws.Outcome.{is_written, reads_back}
-use Rattle.values.specs.declared.Wrote.{Wrote}
-use Rattle.values.specs.declared.Wrote.TheVariants.{Written}
+use Rattle.values.specs.declared.NotWritten.{NotWritten}
+use Rattle.book.specs.declared.FaultAt.{FaultAt}
 
 -- ---- values put into arrays and taken out again
 
@@ -67,29 +65,29 @@ values_for_lem v a =
 -- ---- the values of a book
 
 -- the values that are read from a good book are those that it is the layout of
-pub values_of_good : (book : List ℕ) (s : Starts) → Bytes book → read_of book ≡ read.Good s → contents_for (values_of book) ≡ contents_of book
+pub values_of_good : (book : List ℕ) (s : Starts) → Bytes book → read_of book ≡ Ok s → contents_for (values_of book) ≡ contents_of book
 unfolding values_of
 values_of_good book s bytes e =
-    ap (λ (r : Reading). contents_for (values_for (contents_by book r))) e ∙ values_for_lem (contents_of book) (good_layout book s bytes e).admitted
+    ap (λ (r : Result Starts FaultAt). contents_for (values_for (contents_by book r))) e ∙ values_for_lem (contents_of book) (good_layout book s bytes e).admitted
 
 -- "a refused book has none"
-pub values_of_refused : (book : List ℕ) (f : Fault) (at : ℕ) → read_of book ≡ read.Refused f at → values_of book ≡ no_values (form_of book)
+pub values_of_refused : (book : List ℕ) (f : Fault) (at : ℕ) → read_of book ≡ refused f at → values_of book ≡ no_values (form_of book)
 unfolding values_of
-values_of_refused book f at e = ap (λ (r : Reading). values_for (contents_by book r)) e
+values_of_refused book f at e = ap (λ (r : Result Starts FaultAt). values_for (contents_by book r)) e
 
 -- written and read again: the same values
-pub values_back : (v : Contents) (old new : List ℕ) (n : ℕ) → Typed v → Writes v old new (Written n) → contents_for (values_of (take n new)) ≡ v
+pub values_back : (v : Contents) (old new : List ℕ) (n : ℕ) → Typed v → Writes v old new (Ok n) → contents_for (values_of (take n new)) ≡ v
 unfolding values_of
 values_back v old new n t w =
     let back = reads_back v old new n t w in
-    ap (λ (r : Reading). contents_for (values_for (contents_by (take n new) r))) back.0
+    ap (λ (r : Result Starts FaultAt). contents_for (values_for (contents_by (take n new) r))) back.0
     ∙ ap (λ (x : Contents). contents_for (values_for x)) back.1
     ∙ values_for_lem v ((sound_iff_admitted v t).0 (is_written v old new n w).sound)
 
 -- read and written again, with room for it: the same bytes, and nothing else touched
-pub same_bytes : (book : List ℕ) (s : Starts) → Bytes book → read_of book ≡ read.Good s
-    → (old new : List ℕ) (r : Wrote) → length book ≤ length old → Writes (contents_for (values_of book)) old new r
-    → (r ≡ Written (length book)) × (new ≡ book ++ drop (length book) old)
+pub same_bytes : (book : List ℕ) (s : Starts) → Bytes book → read_of book ≡ Ok s
+    → (old new : List ℕ) (r : Result ℕ NotWritten) → length book ≤ length old → Writes (contents_for (values_of book)) old new r
+    → (r ≡ Ok (length book)) × (new ≡ book ++ drop (length book) old)
 same_bytes book s bytes e old new r room w =
     let l = good_layout book s bytes e in
     let here : contents_for (values_of book) ≡ contents_of book = values_of_good book s bytes e in
@@ -97,4 +95,4 @@ same_bytes book s bytes e old new r room w =
     let same : bytes_of (contents_of book) ≡ book = sym l.bytes in
     let long : length (bytes_of (contents_of book)) ≡ length book = ap length same in
     let out = is.written (admitted_none (contents_of book) l.admitted) (omega arith) in
-    (out.0 ∙ ap Written long, out.1 ∙ ap (λ (b : List ℕ). b ++ drop (length b) old) same)
+    (out.0 ∙ ap Ok long, out.1 ∙ ap (λ (b : List ℕ). b ++ drop (length b) old) same)

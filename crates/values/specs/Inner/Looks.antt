@@ -1,7 +1,6 @@
 -- What the writer's own functions look at: an entry by its index, and a section by its count and the looks at its entries. Nothing here is
 -- proved: these are definitions.
-use Rattle.std.specs.Prelude.{Bool, List, ◌∷◌, ℕ, zero, suc, ◌≤◌, get_or}
-use Rattle.std.proofs.Math.Option.{Option, some, none}
+use Rattle.std.specs.Prelude.{Bool, List, ◌∷◌, ℕ, zero, suc, ◌≤◌, get_or, Option, Some, None, Result, Ok, Err}
 use Rattle.sets.specs.Arrays.{tabulate}
 use Rattle.roster.specs.Limits.{row_limit}
 use Rattle.roster.specs.declared.Policy.{Policy}
@@ -9,15 +8,13 @@ use Rattle.book.specs.Layout.{permission_limit, policy_limit}
 use Rattle.book.specs.Reading.{Kind, not_above, codes, rows_of, policies_of}
 use Rattle.book.specs.Inner.Steps.{count_amiss_in}
 use Rattle.book.specs.declared.Fault.{Fault}
-use Rattle.book.specs.declared.Amiss.{Amiss}
 use Rattle.book.specs.declared.Row.{Row}
 use Rattle.book.specs.declared.Section.{Section}
 use Rattle.book.specs.declared.Section.TheVariants.{Permissions, Rows, Policies}
 use Rattle.values.specs.Values.{nobody, unasked, policy_for}
 use Rattle.values.specs.Writing.{first_of}
-use Rattle.values.specs.declared.First.{First}
-use Rattle.values.specs.declared.First.TheVariants as first
 use Rattle.values.specs.declared.Values.{Values}
+use Rattle.book.specs.declared.Amiss.{Amiss}
 
 -- how many entries of a section there is room for, and how many are meant
 abbrev pub limit_in : Section → ℕ
@@ -50,8 +47,8 @@ policy_in v i = policy_for v.form (policy_given v i)
 
 -- the one before, which the first has not
 abbrev pub prior_to : {A : Type 0} → (ℕ → A) → ℕ → Option A
-prior_to f zero = none
-prior_to f (suc i) = some (f i)
+prior_to f zero = None
+prior_to f (suc i) = Some (f i)
 
 -- the number that an entry starts with: a code, a staff number, P
 abbrev pub lead_of : Values → Section → ℕ → ℕ
@@ -64,25 +61,25 @@ abbrev pub stays_at : Values → Section → ℕ → Bool
 stays_at v section i = not_above (prior_to (lead_of v section) i) (lead_of v section i)
 
 -- what is amiss with an entry of a kind, beside the one before it
-abbrev pub look_with : {A : Type 0} → Kind A → ℕ → (ℕ → A) → ℕ → Amiss
+abbrev pub look_with : {A : Type 0} → Kind A → ℕ → (ℕ → A) → ℕ → Result Unit Amiss
 look_with kind listed f i = kind.faults listed (prior_to f i) (f i)
 
-abbrev pub look_at : Values → Section → ℕ → Amiss
+abbrev pub look_at : Values → Section → ℕ → Result Unit Amiss
 look_at v Permissions = look_with codes 0 (code_in v)
 look_at v Rows = look_with (rows_of v.form) v.code_count (row_in v)
 look_at v Policies = look_with (policies_of v.form) v.code_count (policy_in v)
 
 -- all looks at a section: at its count, then at its entries
-abbrev pub entry_looks : Values → Section → List Amiss
+abbrev pub entry_looks : Values → Section → List (Result Unit Amiss)
 entry_looks v section = tabulate (count_of v section) (look_at v section)
 
-abbrev pub section_looks : Values → Section → List Amiss
+abbrev pub section_looks : Values → Section → List (Result Unit Amiss)
 section_looks v section = count_amiss_in section (count_of v section) ∷ entry_looks v section
 
 -- what is told of a fault that is there or not
-abbrev pub told : Option Fault → First
-told none = first.Nothing
-told (some f) = first.Fault f
+abbrev pub told : Option Fault → Result Unit Fault
+told None = Ok tt
+told (Some f) = Err f
 
-abbrev pub first_look : List Amiss → First
+abbrev pub first_look : List (Result Unit Amiss) → Result Unit Fault
 first_look l = told (first_of l)

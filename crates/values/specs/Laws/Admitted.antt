@@ -1,7 +1,6 @@
 -- Values have no fault exactly if a book may have them. Assumes nothing.
-use Rattle.std.specs.Prelude.{◌≡◌, refl, false, ◌↔◌, List, ◌++◌, ℕ, ◌^◌, ◌≤◌, ◌<◌, length}
+use Rattle.std.specs.Prelude.{◌≡◌, refl, false, ◌↔◌, List, ◌++◌, ℕ, ◌^◌, ◌≤◌, ◌<◌, length, None}
 use Rattle.std.proofs.Common.{sym, ap, ◌∙◌, lt_of_lt_of_le, arith, pow_mono, ltb-false}
-use Rattle.std.proofs.Math.Option.{none}
 use Rattle.roster.proofs.Laws.Rulings.{inside, policy_within}
 use Rattle.roster.specs.declared.Policy.{Policy}
 use Rattle.book.specs.Layout.{Contents, permission_limit, code_fields, row_fields, policy_fields, form_has_persons, form_has_editions, bytes_of, PolicyFits, Admitted}
@@ -46,12 +45,12 @@ admitted_laidable v a =
 
 -- what is known of a section without fault
 section-none : {A : Type 0} (kind : Kind A) (fields : A → List ℕ) (codec : Codec kind fields) (listed : ℕ) (l : List A)
-    → first_of (section_in kind listed l) ≡ none → (kind.out_of_range (length l) ≡ false) × Faultless kind fields codec listed none l
+    → first_of (section_in kind listed l) ≡ None → (kind.out_of_range (length l) ≡ false) × Faultless kind fields codec listed None l
 section-none kind fields codec listed l e =
-    let h = none_head _ (value_looks kind listed none l) e in
-    ((not_amiss _ _ _ _ h.0).0, none_faultless kind fields codec listed none l h.1)
+    let h = none_head _ (value_looks kind listed None l) e in
+    ((not_amiss _ _ _ _ h.0).0, none_faultless kind fields codec listed None l h.1)
 
-none_admitted : (v : Contents) → Typed v → fault_in v ≡ none → Admitted v
+none_admitted : (v : Contents) → Typed v → fault_in v ≡ None → Admitted v
 none_admitted v t e =
     let listed = length v.codes in
     let one = section_in codes 0 v.codes in
@@ -78,14 +77,14 @@ none_admitted v t e =
       persons = each (λ (row : Row) (h : RowFits persons 32 row). h.person) v.rows t.rows;
       own = each (λ (row : Row) (h : RowFits persons 32 row). h.own) v.rows t.rows;
       holdings = held.1;
-      sound = policies_sound editions listed none v.policies p.1;
+      sound = policies_sound editions listed None v.policies p.1;
       editions = t.editions;
     }
 
 -- by way of the reader, who finds no fault in the layout of admitted values
-pub admitted_none : (v : Contents) → Admitted v → fault_in v ≡ none
+pub admitted_none : (v : Contents) → Admitted v → fault_in v ≡ None
 admitted_none v a =
     sym (as_in_the_reader v (admitted_laidable v a) (λ old. (λ many. omega (arith, a.permissions), λ many. omega (arith, a.permissions)))) ∙ ap fault_of (layout_good v (bytes_of v) (record { admitted = a; bytes = refl }))
 
-pub sound_iff_admitted : (v : Contents) → Typed v → (fault_in v ≡ none) ↔ Admitted v
+pub sound_iff_admitted : (v : Contents) → Typed v → (fault_in v ≡ None) ↔ Admitted v
 sound_iff_admitted v t = (none_admitted v t, admitted_none v)

@@ -1,12 +1,9 @@
 -- The loop's invariant: the entries passed are sound. Assumes nothing.
+use Rattle.std.specs.Prelude.{Ok}
 use mathlib.Core.Path.{◌≡◌}
-use Prim.Native.Nat.{ℕ, ◌-◌, ◌≤◌, ◌<◌}
-use Rattle.book.specs.declared.Amiss.TheVariants.{Nothing}
+use Prim.Native.Nat.{ℕ, ◌<◌}
 use Rattle.values.specs.Inner.Looks.{look_at}
 use Rattle.values.proofs.look.look_values.Given as goal
 
 abbrev pub invariant-loop-i : goal.invariant-loop-i
-invariant-loop-i l = (l.i ≤ l.count) × ((j : ℕ) → j < l.i → look_at l.values l.section j ≡ Nothing)
-
-abbrev pub decreases-loop-i : goal.decreases-loop-i
-decreases-loop-i l = l.count - l.i
+invariant-loop-i l = (j : ℕ) → j < l.i → look_at l.values l.section j ≡ Ok tt

@@ -1,12 +1,9 @@
 -- The count, which is a byte, then the entries: the loop's invariant says which are left. Assumes nothing.
-use Prim.Native.Nat.{◌-◌, ◌≤◌}
+use Prim.Native.Nat.{◌-◌}
 use Rattle.text.specs.Laws.Appends.{SoFar}
 use Rattle.values.specs.Inner.Puts.{entry_bytes, in_order}
 use Rattle.values.proofs.put.put_section.Given as goal
 
 abbrev pub invariant-loop-i : goal.invariant-loop-i
-invariant-loop-i l = (l.i ≤ l.count)
-    × SoFar (in_order (entry_bytes l.values l.section) 0 l.count) (in_order (entry_bytes l.values l.section) l.i (l.count - l.i)) l.initial.out l.initial.next l.out l.next
-
-abbrev pub decreases-loop-i : goal.decreases-loop-i
-decreases-loop-i l = l.count - l.i
+invariant-loop-i l =
+    SoFar (in_order (entry_bytes l.values l.section) 0 l.count) (in_order (entry_bytes l.values l.section) l.i (l.count - l.i)) l.initial.out l.initial.next l.out l.next
