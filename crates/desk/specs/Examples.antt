@@ -1,5 +1,5 @@
 -- Books, what is taken of them and what is given back, as one table: the definitions run on it.
-use Rattle.std.specs.Prelude.{◌≡◌, refl, List, [], ◌∷◌, map, ℕ, take, set}
+use Rattle.std.specs.Prelude.{◌≡◌, refl, List, [], ◌∷◌, map, ℕ, take, set, Option, Some, None}
 use Rattle.std.specs.Int.Count.{ones, ones_in, count_trailing_zeros}
 use Rattle.sets.specs.Sets.{bit}
 use Rattle.sets.specs.Sums.{sum_to, to_n}
@@ -14,10 +14,11 @@ use Rattle.book.specs.Cases.{book_b, new_b}
 use Rattle.book.specs.declared.Fault.TheVariants.{Short, Permissions}
 use Rattle.values.specs.Values.{contents_for, values_for, values_of}
 use Rattle.live.specs.Changes.{Call, hire, leave, grant, first_from, told_of, after_from}
-use Rattle.desk.specs.Filled.{seated_by, filled_from}
+use Rattle.desk.specs.Filled.{seated_by, filled_from, roster_from}
 use Rattle.desk.specs.Back.{least_of, order_of, given_back}
-use Rattle.desk.specs.declared.Intake.{Intake}
-use Rattle.desk.specs.declared.Intake.TheVariants.{Taken, Shared, Refused}
+use Rattle.std.specs.Result.{result_err}
+use Rattle.desk.specs.declared.NotTaken.TheVariants.{Shared, Refused}
+use Rattle.desk.specs.declared.NotTaken.{NotTaken}
 
 -- ---- how the table is written
 
@@ -36,9 +37,9 @@ named one other =
     201 ∷ 1 ∷ 10 ∷ 0 ∷ 2 ∷ 101 ∷ 0 ∷ 0 ∷ 0 ∷ one ∷ 0 ∷ 0 ∷ 0 ∷ 1 ∷ 0 ∷ 0 ∷ 0 ∷ 102 ∷ 0 ∷ 0 ∷ 0 ∷ other ∷ 0 ∷ 0 ∷ 0 ∷ 0 ∷ 0 ∷ 0 ∷ 0
     ∷ 1 ∷ 1 ∷ 0 ∷ 0 ∷ 0 ∷ 0 ∷ 1 ∷ 2 ∷ 2 ∷ []
 
--- what is looked at: whether it was taken, the places, the first staff numbers, holdings and sets
+-- what is looked at: whether it was taken, and why not, the places, the first staff numbers, holdings and sets
 pub record Sight : Type 0 where
-  pub intake : Intake
+  pub why : Option NotTaken
   pub occupied : ℕ
   pub staff : List ℕ
   pub holdings : List ℕ
@@ -46,21 +47,21 @@ pub record Sight : Type 0 where
 
 abbrev pub sight : List ℕ → Sight
 sight book =
-    let f = filled_from book in
+    let roster = roster_from book in
     record {
-      intake = f.intake;
-      occupied = f.roster.occupied;
-      staff = take 5 f.roster.staff;
-      holdings = take 5 f.roster.holdings;
-      holders = take 3 f.roster.holders;
+      why = result_err (filled_from book);
+      occupied = roster.occupied;
+      staff = take 5 roster.staff;
+      holdings = take 5 roster.holdings;
+      holders = take 3 roster.holders;
     }
 
-abbrev pub untaken : Intake → Sight
-untaken why = record { intake = why; occupied = 0; staff = 0 ∷ 0 ∷ 0 ∷ 0 ∷ 0 ∷ []; holdings = 0 ∷ 0 ∷ 0 ∷ 0 ∷ 0 ∷ []; holders = 0 ∷ 0 ∷ 0 ∷ [] }
+abbrev pub untaken : NotTaken → Sight
+untaken why = record { why = Some why; occupied = 0; staff = 0 ∷ 0 ∷ 0 ∷ 0 ∷ 0 ∷ []; holdings = 0 ∷ 0 ∷ 0 ∷ 0 ∷ 0 ∷ []; holders = 0 ∷ 0 ∷ 0 ∷ [] }
 
 -- the book that is written of a book's roster after these calls, the last one first
 abbrev pub rewritten : List ℕ → List Call → List ℕ
-rewritten book calls = bytes_of (contents_for (given_back (after_from (filled_from book).roster calls) (values_of book)))
+rewritten book calls = bytes_of (contents_for (given_back (after_from (roster_from book) calls) (values_of book)))
 
 -- ---- the table
 
@@ -70,17 +71,17 @@ books = book_b ∷ new_b ∷ pair 7 8 ∷ pair 8 7 ∷ [] ∷ set book_b 0 0 ∷
 abbrev pub sights : List Sight
 sights =
     record {
-      intake = Taken;
+      why = None;
       occupied = 15;
       staff = 101 ∷ 102 ∷ 103 ∷ 104 ∷ 0 ∷ [];
       holdings = 3 ∷ 1 ∷ 2 ∷ 3 ∷ 0 ∷ [];
       holders = 11 ∷ 13 ∷ 0 ∷ [];
     }
     ∷ untaken Shared
-    ∷ record { intake = Taken; occupied = 3; staff = 101 ∷ 102 ∷ 0 ∷ 0 ∷ 0 ∷ []; holdings = 1 ∷ 0 ∷ 0 ∷ 0 ∷ 0 ∷ []; holders = 1 ∷ 0 ∷ 0 ∷ [] }
-    ∷ record { intake = Taken; occupied = 3; staff = 101 ∷ 102 ∷ 0 ∷ 0 ∷ 0 ∷ []; holdings = 1 ∷ 0 ∷ 0 ∷ 0 ∷ 0 ∷ []; holders = 1 ∷ 0 ∷ 0 ∷ [] }
-    ∷ untaken (Refused Short 0)
-    ∷ untaken (Refused Permissions 0)
+    ∷ record { why = None; occupied = 3; staff = 101 ∷ 102 ∷ 0 ∷ 0 ∷ 0 ∷ []; holdings = 1 ∷ 0 ∷ 0 ∷ 0 ∷ 0 ∷ []; holders = 1 ∷ 0 ∷ 0 ∷ [] }
+    ∷ record { why = None; occupied = 3; staff = 101 ∷ 102 ∷ 0 ∷ 0 ∷ 0 ∷ []; holdings = 1 ∷ 0 ∷ 0 ∷ 0 ∷ 0 ∷ []; holders = 1 ∷ 0 ∷ 0 ∷ [] }
+    ∷ untaken (Refused (record { fault = Short; place = 0 }))
+    ∷ untaken (Refused (record { fault = Permissions; place = 0 }))
     ∷ []
 
 -- B again; the pair in the old form; the pair where 102 left and 99, who took the place, comes first by number with what was granted; and the pair with

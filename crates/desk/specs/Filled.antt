@@ -1,5 +1,5 @@
 -- Request 07, for planners: the roster of a book in which no two rows share a person. Nothing here is proved: these are definitions, and they run.
-use Rattle.std.specs.Prelude.{Bool, true, false, List, ℕ, ◌-◌, ◌^◌, min, ltb, length, get_or}
+use Rattle.std.specs.Prelude.{Bool, true, false, List, ℕ, ◌-◌, ◌^◌, min, ltb, length, get_or, Result, Ok, Err}
 use Rattle.std.proofs.Math.Option.{Option, some, none}
 use Rattle.std.proofs.Math.ListN.{get_elem?}
 use Rattle.sets.specs.Members.{members}
@@ -10,16 +10,16 @@ use Rattle.accounts.specs.Persons.{persons}
 use Rattle.accounts.specs.declared.Accounts.{Accounts}
 use Rattle.book.specs.Reading.{read_of}
 use Rattle.book.specs.Parts.{contents_of, accounts_in}
-use Rattle.book.specs.declared.Reading.{Reading}
-use Rattle.book.specs.declared.Reading.TheVariants as read
 use Rattle.book.specs.declared.Row.{Row}
 use Rattle.values.specs.Values.{nobody}
 use Rattle.live.specs.Changes.{empty}
 use Rattle.live.specs.Plain.{Somebody, Plain}
 use Rattle.live.specs.declared.Roster.{Roster}
-use Rattle.desk.specs.declared.Intake.{Intake}
-use Rattle.desk.specs.declared.Intake.TheVariants as intake
-use Rattle.desk.specs.declared.Filled.{Filled}
+use Rattle.std.specs.Result.{result_unwrap_or}
+use Rattle.desk.specs.declared.NotTaken.TheVariants.{Shared, Refused}
+use Rattle.desk.specs.declared.NotTaken.{NotTaken}
+use Rattle.book.specs.declared.Starts.{Starts}
+use Rattle.book.specs.declared.FaultAt.{FaultAt}
 
 -- row i of these at place i, as far as n goes
 unfoldable pub seated_by : List Row → ℕ → Roster
@@ -52,16 +52,17 @@ abbrev pub sharing : Accounts → Bool
 sharing a = ltb (persons a) a.rows
 
 -- "another is not taken, and says so"
-abbrev pub refused_with : Intake → Filled
-refused_with why = record { roster = empty; intake = why }
+abbrev pub filled_if : Bool → List Row → Result Roster NotTaken
+filled_if true rows = Err Shared
+filled_if false rows = Ok (seated rows)
 
-abbrev pub filled_if : Bool → List Row → Filled
-filled_if true rows = refused_with intake.Shared
-filled_if false rows = record { roster = seated rows; intake = intake.Taken }
+abbrev pub filled_by : List ℕ → Result Starts FaultAt → Result Roster NotTaken
+filled_by book (Ok starts) = filled_if (sharing (accounts_in book)) (contents_of book).rows
+filled_by book (Err e) = Err (Refused e)
 
-abbrev pub filled_by : List ℕ → Reading → Filled
-filled_by book (read.Good starts) = filled_if (sharing (accounts_in book)) (contents_of book).rows
-filled_by book (read.Refused fault place) = refused_with (intake.Refused fault place)
-
-unfoldable pub filled_from : List ℕ → Filled
+unfoldable pub filled_from : List ℕ → Result Roster NotTaken
 filled_from book = filled_by book (read_of book)
+
+-- the roster that a book leaves: an empty one, where it is not taken
+abbrev pub roster_from : List ℕ → Roster
+roster_from book = result_unwrap_or (filled_from book) empty

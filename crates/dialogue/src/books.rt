@@ -6,7 +6,7 @@ use std::fs::{File, OpenFile};
 use std::io;
 use std::io::Write;
 use std::rt::Files;
-use values::Wrote;
+use values::NotWritten;
 
 // The first bytes of a buffer; none where there are not so many.
 fn front(bytes: &[u8], length: usize) -> &[u8] {
@@ -18,7 +18,7 @@ fn front(bytes: &[u8], length: usize) -> &[u8] {
 }
 
 // Puts the roster's book into the buffer, and answers how many bytes it has.
-fn lay_out(board: Board, out: &mut [u8]) -> Wrote {
+fn lay_out(board: Board, out: &mut [u8]) -> Result<usize, NotWritten> {
     let roster = board.roster;
     let values = board.values;
     values::write(desk::give_back(roster, values), out)
@@ -39,8 +39,8 @@ pub(crate) fn sheet(rt: &impl Print, board: Board) -> bool {
     }
     let mut book = [0u8; values::LONGEST];
     match lay_out(board, &mut book) {
-        Wrote::Written(length) => show(rt, front(&book, length)),
-        Wrote::Refused(why, _) => no_book(rt, why.number()),
+        Ok(length) => show(rt, front(&book, length)),
+        Err(not) => no_book(rt, not.why.number()),
     }
 }
 
@@ -56,8 +56,8 @@ fn show(rt: &impl Print, book: &[u8]) -> bool {
 pub(crate) fn write(rt: &(impl Files + Print), board: Board, name: &[u8]) -> bool {
     let mut book = [0u8; values::LONGEST];
     match lay_out(board, &mut book) {
-        Wrote::Written(length) => save(rt, name, front(&book, length)),
-        Wrote::Refused(why, _) => no_book(rt, why.number()),
+        Ok(length) => save(rt, name, front(&book, length)),
+        Err(not) => no_book(rt, not.why.number()),
     }
 }
 

@@ -10,7 +10,7 @@ mod typed;
 mod words;
 
 use board::Board;
-use desk::Intake;
+use desk::NotTaken;
 use std::env::FillError;
 use std::rt::{Env, Files, Runtime};
 use typed::{Ended, Line};
@@ -31,36 +31,35 @@ fn complain_of_book(rt: &impl Eprint, number: u64, place: u64) {
     let _ = eprintln!(rt; "roster: the book is not taken: bad {number} {place}");
 }
 
-// Whether the book's rows were taken; if not, it says why.
-fn is_taken(rt: &impl Eprint, intake: Intake) -> bool {
-    match intake {
-        Intake::Taken => {
-            return true;
-        }
-        Intake::Shared => complain(
+// Why the book's rows were not taken.
+fn not_taken(rt: &impl Eprint, why: NotTaken) {
+    match why {
+        NotTaken::Shared => complain(
             rt,
             "the book is not taken: two of its rows are one person's",
         ),
-        Intake::Refused(fault, place) => complain_of_book(
+        NotTaken::Refused(refused) => complain_of_book(
             rt,
-            u64::from(fault.number()),
-            place as u64,
+            u64::from(refused.fault.number()),
+            refused.place as u64,
         ),
     }
-    false
 }
 
 fn of_book(rt: &impl Eprint, book: &[u8]) -> Start {
-    let filled = desk::fill(book);
-    let roster = filled.roster;
-    let intake = filled.intake;
-    Start {
-        board: Board {
-            roster: roster,
-            values: values::of_book(book),
-            is_heard: true,
+    match desk::fill(book) {
+        Ok(roster) => Start {
+            board: Board {
+                roster,
+                values: values::of_book(book),
+                is_heard: true,
+            },
+            is_ready: true,
         },
-        is_ready: is_taken(rt, intake),
+        Err(why) => {
+            not_taken(rt, why);
+            unready()
+        }
     }
 }
 

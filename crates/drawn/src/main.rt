@@ -9,7 +9,6 @@ mod saved;
 use saved::Way;
 use std::io;
 use table::{Making, Shown};
-use values::Wrote;
 
 // As many books are drawn, and as many of them are compared with a wrong one.
 const BOOKS: usize = 3000;
@@ -26,14 +25,8 @@ struct Book {
 fn drawn(seed: u64) -> Book {
     let mut bytes = [0u8; values::LONGEST];
     match values::write(draw::values(seed), &mut bytes) {
-        Wrote::Written(length) => Book {
-            bytes: bytes,
-            length: length,
-        },
-        Wrote::Refused(_, _) => Book {
-            bytes: bytes,
-            length: 0,
-        },
+        Ok(length) => Book { bytes, length },
+        Err(_) => Book { bytes, length: 0 },
     }
 }
 

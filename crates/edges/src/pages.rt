@@ -13,7 +13,7 @@ use crate::words::{
 use book::{Form, Row};
 use roster::Policy;
 use std::rt::Files;
-use values::{Values, Wrote};
+use values::{NotWritten, Values};
 
 // What every byte of the buffer is before.
 const BEFORE: u8 = 7;
@@ -165,7 +165,7 @@ fn values_at(rt: &impl Files, text: &[u8], at: usize) -> Values {
 // ---- what is written
 
 // Writes into so many bytes of the buffer, and into all of it where there are not so many.
-fn write_in(values: Values, bytes: &mut [u8], room: usize) -> Wrote {
+fn write_in(values: Values, bytes: &mut [u8], room: usize) -> Result<usize, NotWritten> {
     if room <= bytes.len() {
         return values::write(values, &mut bytes[0..room]);
     }
@@ -207,16 +207,13 @@ fn with_bytes(line: Line, bytes: [u8; ROOM], length: usize) -> Line {
 }
 
 // What came of writing, and what the buffer then has.
-fn told(wrote: Wrote, bytes: [u8; ROOM]) -> Line {
+fn told(wrote: Result<usize, NotWritten>, bytes: [u8; ROOM]) -> Line {
     match wrote {
-        Wrote::Written(length) => {
+        Ok(length) => {
             let line = Line::empty().word(b"written ").number(length as u64);
             with_touched(with_bytes(line, bytes, length), bytes, length)
         }
-        Wrote::Refused(why, place) => {
-            let line = bad(why.number(), place);
-            with_touched(line, bytes, 0)
-        }
+        Err(not) => with_touched(bad(not.why.number(), not.place), bytes, 0),
     }
 }
 
@@ -238,12 +235,12 @@ pub(crate) fn again(book: Draft) -> Line {
     let mut bytes = [BEFORE; ROOM];
     let wrote = values::write(values_of(book), &mut bytes);
     match wrote {
-        Wrote::Written(length) => {
+        Ok(length) => {
             if is_book(book, length, bytes) {
                 return Line::empty().word(b"same ").number(length as u64);
             }
             told(wrote, bytes)
         }
-        Wrote::Refused(_, _) => told(wrote, bytes),
+        Err(_) => told(wrote, bytes),
     }
 }

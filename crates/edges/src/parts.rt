@@ -4,7 +4,6 @@ use crate::books::book_at;
 use crate::draft::front;
 use crate::line::Line;
 use crate::words::{behind, number_at};
-use book::{Listed, Seen};
 use std::rt::Files;
 
 // The row with the number that stands here, by the view: its staff number, its person number and its holdings.
@@ -13,13 +12,13 @@ pub(crate) fn row(rt: &impl Files, text: &[u8], at: usize) -> Line {
     let row = number_at(text, at).value as usize;
     let bytes = book.bytes;
     match book::row_by_number(front(&bytes, book.length), row) {
-        Seen::Row(found) => Line::empty()
+        Some(found) => Line::empty()
             .number(wide(found.staff))
             .byte(b' ')
             .number(wide(found.person))
             .byte(b' ')
             .number(wide(found.holdings)),
-        Seen::NoSuchRow => Line::empty().word(b"none"),
+        None => Line::empty().word(b"none"),
     }
 }
 
@@ -60,7 +59,7 @@ pub(crate) fn policy(rt: &impl Files, text: &[u8], at: usize) -> Line {
     let index = number_at(text, at).value as usize;
     let bytes = book.bytes;
     match book::policy_at(front(&bytes, book.length), index) {
-        Listed::Policy(found) => Line::empty()
+        Some(found) => Line::empty()
             .number(wide(found.task))
             .byte(b';')
             .number(wide(found.away))
@@ -70,6 +69,6 @@ pub(crate) fn policy(rt: &impl Files, text: &[u8], at: usize) -> Line {
             .number(wide(found.size))
             .byte(b';')
             .number(wide(found.edition)),
-        Listed::NoSuchPolicy => Line::empty().word(b"none"),
+        None => Line::empty().word(b"none"),
     }
 }

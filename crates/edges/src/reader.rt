@@ -4,7 +4,6 @@ use crate::cases::Outcome;
 use crate::draft::{Draft, b, front, longest};
 use crate::line::Line;
 use crate::words::is_word;
-use book::Reading;
 
 fn wide(n: u32) -> u64 {
     n as u64
@@ -13,14 +12,14 @@ fn wide(n: u32) -> u64 {
 pub(crate) fn read(book: Draft) -> Line {
     let bytes = book.bytes;
     match book::read(front(&bytes, book.length)) {
-        Reading::Good(starts) => Line::empty()
+        Ok(starts) => Line::empty()
             .word(b"good ")
             .number(starts.permissions as u64)
             .byte(b' ')
             .number(starts.rows as u64)
             .byte(b' ')
             .number(starts.policies as u64),
-        Reading::Refused(fault, place) => bad(fault.number(), place),
+        Err(refused) => bad(refused.fault.number(), refused.place),
     }
 }
 

@@ -1,7 +1,7 @@
 -- 01, "The sheet": the whole text as a function of the book's bytes, and what the function that writes it promises. It is made of the reader's
 -- reply, of the reply to each policy by the search that skips, over the book's accounts, and of how a line is written. Nothing here is proved: these are definitions,
 -- and they run.
-use Rattle.std.specs.Prelude.{◌≡◌, List, [], ◌++◌, ℕ, zero, suc, ◌≤◌, ◌<◌, length, drop}
+use Rattle.std.specs.Prelude.{◌≡◌, List, [], ◌++◌, ℕ, zero, suc, ◌≤◌, ◌<◌, length, drop, Option, Some, None, Result, Ok, Err}
 use Rattle.roster.specs.declared.Policy.{Policy}
 use Rattle.roster.specs.declared.Reply.{Reply}
 use Rattle.absences.specs.declared.Way.{Way}
@@ -12,13 +12,11 @@ use Rattle.questions.specs.Replied.{policy_answer_of}
 use Rattle.book.specs.Faults.{fault_number}
 use Rattle.book.specs.Reading.{read_of}
 use Rattle.book.specs.Parts.{accounts_in, policy_count_of, policy_at}
-use Rattle.book.specs.declared.Reading.{Reading}
-use Rattle.book.specs.declared.Reading.TheVariants.{Good, Refused}
-use Rattle.book.specs.declared.Listed.{Listed}
-use Rattle.book.specs.declared.Listed.TheVariants as listed
 use Rattle.lines.specs.declared.Writing.{Writing}
 use Rattle.lines.specs.declared.Writing.TheVariants.{Written, TooShort}
 use Rattle.lines.specs.Lines.{line_of, bad_line}
+use Rattle.book.specs.declared.Starts.{Starts}
+use Rattle.book.specs.declared.FaultAt.{FaultAt}
 
 -- "The allowance is 1,000,000": each policy is asked with the whole of it
 abbrev pub allowance : ℕ
@@ -41,9 +39,9 @@ unfoldable pub reply_to : List ℕ → Policy → Reply
 reply_to book p = answer_to (accounts_in book) p
 
 -- the line of the policy with this index
-unfoldable pub line_by : List ℕ → ℕ → Listed → List ℕ
-line_by book index (listed.Policy p) = line_of (numbers_in book) index (reply_to book p)
-line_by book index listed.NoSuchPolicy = []
+unfoldable pub line_by : List ℕ → ℕ → Option Policy → List ℕ
+line_by book index (Some p) = line_of (numbers_in book) index (reply_to book p)
+line_by book index None = []
 
 -- "for each policy in book order": the n lines from this index on
 unfoldable pub lines_from : List ℕ → ℕ → ℕ → List ℕ
@@ -51,9 +49,9 @@ lines_from book index zero = []
 lines_from book index (suc n) = line_by book index (policy_at book index) ++ lines_from book (suc index) n
 
 -- "A refused book prints only one such line of `bad`, the number and the place."
-unfoldable pub sheet_by : List ℕ → Reading → List ℕ
-sheet_by book (Refused fault place) = bad_line (fault_number fault) place
-sheet_by book (Good starts) = lines_from book 0 (policy_count_of book)
+unfoldable pub sheet_by : List ℕ → Result Starts FaultAt → List ℕ
+sheet_by book (Err e) = bad_line (fault_number e.fault) e.place
+sheet_by book (Ok starts) = lines_from book 0 (policy_count_of book)
 
 unfoldable pub sheet_of : List ℕ → List ℕ
 sheet_of book = sheet_by book (read_of book)

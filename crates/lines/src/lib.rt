@@ -13,7 +13,6 @@ ghost use Rattle.lines.specs.Lines.{verdict_word, line_of, bad_line};
 ghost use Rattle.lines.specs.Sheet.{allowance, way, answer_to, numbers_in, line_by, lines_from, longest, enough, Promised};
 
 use accounts::Accounts;
-use book::{Listed, Reading};
 use questions::Way;
 use roster::{Policy, Reply, Verdict};
 
@@ -108,8 +107,8 @@ fn policy_line(
     ensures { Appended (line_by book.now index (policy_at book.now index)) out.old at out.new result }
 {
     match book::policy_at(book, index) {
-        Listed::Policy(policy) => asked(out, at, numbers, index, accounts, policy),
-        Listed::NoSuchPolicy => at,
+        Some(policy) => asked(out, at, numbers, index, accounts, policy),
+        None => at,
     }
 }
 
@@ -140,7 +139,11 @@ pub fn sheet(book: &[u8], out: &mut [u8]) -> Writing
         return Writing::TooShort;
     }
     match book::read(book) {
-        Reading::Refused(fault, place) => Writing::Written(bad_line(out, fault.number(), place)),
-        Reading::Good(_) => Writing::Written(all_lines(book, out)),
+        Err(refused) => Writing::Written(bad_line(
+            out,
+            refused.fault.number(),
+            refused.place,
+        )),
+        Ok(_) => Writing::Written(all_lines(book, out)),
     }
 }

@@ -5,16 +5,14 @@
 use lines::Writing;
 use roster::Policy;
 use std::io;
-use values::Wrote;
+use values::NotWritten;
 
 // The book with these holdings in this row, at the front of the buffer, or why it is not written. A refused book has no values, and so gives 12; a
 // row that the book has not plays no part.
-fn regrant(book: &[u8], row: usize, holdings: u32, out: &mut [u8]) -> Wrote {
+fn regrant(book: &[u8], row: usize, holdings: u32, out: &mut [u8]) -> Result<usize, NotWritten> {
     let mut values = values::of_book(book);
     if row < Policy::ROWS {
-        let mut person = values.rows[row];
-        person.holdings = holdings;
-        values.rows[row] = person;
+        values.rows[row].holdings = holdings;
     }
     values::write(values, out)
 }
@@ -44,12 +42,12 @@ fn main(rt: HostRuntime) -> io::Result<()> {
 
     let mut out = [0u8; values::LONGEST];
     match regrant(book, 1, 3, &mut out) {
-        Wrote::Written(length) => {
+        Ok(length) => {
             println!(rt; "written, {length} bytes")?;
             show_sheet(&rt, front(&out, length))
         }
-        Wrote::Refused(why, _) => {
-            let number = why.number();
+        Err(not) => {
+            let number = not.why.number();
             println!(rt; "not written, {number}")
         }
     }

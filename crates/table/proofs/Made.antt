@@ -1,4 +1,5 @@
 -- What is written is a book of the table, or nothing is written. Assumes nothing.
+use Rattle.std.specs.Prelude.{Result, Ok, Err}
 use Rattle.std.proofs.Common.{◌≡◌, ℕ, ◌+◌, ◌-◌, ◌<◌, ◌≤◌, List, ◌++◌, length, take, drop, sym, refl, ap, ◌∙◌, subst, arith, length-take}
 use native.Mathlib.Decide.{dec_lt}
 use lib.Seq.{sets-eq, take-append_seam, drop-append_seam}
@@ -7,8 +8,6 @@ use Rattle.text.specs.Laws.Appends.{same, all_stand, all_past}
 use Rattle.book.specs.Reading.{read_of}
 use Rattle.book.specs.Parts.{contents_of}
 use Rattle.book.specs.declared.Starts.{Starts}
-use Rattle.book.specs.declared.Reading.{Reading}
-use Rattle.book.specs.declared.Reading.TheVariants.{Good, Refused}
 use Rattle.table.specs.Table.{table_text_of}
 use Rattle.table.specs.Understood.{tidy}
 use Rattle.table.specs.Shown.{shown_by, shown_of, shown_as, longest, Shows}
@@ -19,6 +18,7 @@ use Rattle.table.specs.declared.Shown.TheVariants as shown
 use Rattle.table.specs.declared.Trouble.{Trouble}
 use Rattle.table.specs.declared.Making.{Making}
 use Rattle.table.specs.declared.Making.TheVariants.{Made, Wrong}
+use Rattle.book.specs.declared.FaultAt.{FaultAt}
 
 pub front : (n : ℕ) (l : List ℕ) → between 0 n l ≡ take n l
 front n l =
@@ -75,17 +75,17 @@ retold {old = old} {new = new} {r = r} e m = subst (λ (l : List ℕ). MakesOf (
 
 -- ---- a book is shown as this text
 
-shown_good : (book : List ℕ) (s : Starts) → read_of book ≡ Good s → shown_of book ≡ table_text_of (contents_of book)
+shown_good : (book : List ℕ) (s : Starts) → read_of book ≡ Ok s → shown_of book ≡ table_text_of (contents_of book)
 unfolding shown_of shown_by
 shown_good book s e = ap (shown_by book) e
 
 pub is_book : (book old new text : List ℕ) (r : Shown) (n : ℕ) → Shows book old new r → r ≡ shown.Table n → take n new ≡ text → BookOf text book
 is_book book old new text r n s t same = go (dec_lt (length old) longest)
   where
-    good : longest ≤ length old → (rd : Reading) → read_of book ≡ rd → BookOf text book
-    good long (Good starts) e =
+    good : longest ≤ length old → (rd : Result Starts FaultAt) → read_of book ≡ rd → BookOf text book
+    good long (Ok starts) e =
         let w = s.written long in
-        let q : r ≡ shown.Table (length (shown_of book)) = w.0 ∙ ap (λ (x : Reading). shown_as x (length (shown_of book))) e in
+        let q : r ≡ shown.Table (length (shown_of book)) = w.0 ∙ ap (λ (x : Result Starts FaultAt). shown_as x (length (shown_of book))) e in
         let k : n ≡ length (shown_of book) = cc in
         record {
           starts = starts;
@@ -97,9 +97,9 @@ is_book book old new text r n s t same = go (dec_lt (length old) longest)
               ∙ ap (λ (i : ℕ). take i new) (sym k)
               ∙ same;
         }
-    good long (Refused fault place) e =
+    good long (Err x) e =
         let w = s.written long in
-        let q : r ≡ shown.Bad (length (shown_of book)) = w.0 ∙ ap (λ (x : Reading). shown_as x (length (shown_of book))) e in
+        let q : r ≡ shown.Bad (length (shown_of book)) = w.0 ∙ ap (λ (x : Result Starts FaultAt). shown_as x (length (shown_of book))) e in
         let z : ◌≡◌ {A = ℕ} 0 1 = cc in
         absurd (omega arith)
 

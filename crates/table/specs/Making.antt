@@ -1,9 +1,8 @@
 -- What is promised of making a book of a table. Nothing here is proved: these are definitions.
-use Rattle.std.specs.Prelude.{◌≡◌, ℕ, ◌<◌, ◌≤◌, ◌≢◌, List, length, take, drop}
+use Rattle.std.specs.Prelude.{◌≡◌, ℕ, ◌<◌, ◌≤◌, ◌≢◌, List, length, take, drop, Ok}
 use Rattle.book.specs.Reading.{read_of}
 use Rattle.book.specs.Parts.{contents_of}
 use Rattle.book.specs.declared.Starts.{Starts}
-use Rattle.book.specs.declared.Reading.TheVariants.{Good}
 use Rattle.values.specs.Writing.{longest}
 use Rattle.table.specs.Table.{table_text_of}
 use Rattle.table.specs.Understood.{understood}
@@ -16,7 +15,7 @@ use Rattle.table.specs.declared.Making.TheVariants.{Made, Wrong, TooShort}
 -- the book is a good one, and the text of its values is this one
 pub record BookOf (text book : List ℕ) : Type 0 where
   pub starts : Starts
-  pub good : read_of book ≡ Good starts
+  pub good : read_of book ≡ Ok starts
   pub says : table_text_of (contents_of book) ≡ text
 
 -- such a book stands at the front of the buffer, so many bytes long, and the rest of it is as it was

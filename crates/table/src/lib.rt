@@ -16,10 +16,9 @@ ghost use Rattle.table.specs.Shown.{longest, Shows};
 ghost use Rattle.table.specs.Understood.{tidy};
 ghost use Rattle.table.specs.Making.{enough, wholly, BookOf, MakesOf, Makes};
 
-use book::Reading;
 use draft::Found;
 use put::put_table;
-use values::{Values, Wrote};
+use values::Values;
 
 // No book's table is longer: a heading and 64 rows of at most 205 and 86 bytes, an empty line, a heading and 32 policies of at most 206 and 74.
 pub const LONGEST: usize = 8284;
@@ -128,10 +127,12 @@ pub fn show(book: &[u8], out: &mut [u8]) -> Shown
         return Shown::TooShort;
     }
     match book::read(book) {
-        Reading::Refused(fault, place) => {
-            Shown::Bad(lines::bad_line(out, fault.number(), place))
-        }
-        Reading::Good(_) => Shown::Table(put_table(out, 0, values::of_book(book))),
+        Err(refused) => Shown::Bad(lines::bad_line(
+            out,
+            refused.fault.number(),
+            refused.place,
+        )),
+        Ok(_) => Shown::Table(put_table(out, 0, values::of_book(book))),
     }
 }
 
@@ -225,13 +226,13 @@ fn written(plain: &[u8], values: Values, out: &mut [u8]) -> Making
 {
     let mut book = [0u8; values::LONGEST];
     match values::write(values, &mut book) {
-        Wrote::Written(length) => {
+        Ok(length) => {
             if length > values::LONGEST {
                 return all_wrong(What::NotUnderstood);
             }
             copied(&book[0..length], plain, out)
         }
-        Wrote::Refused(_, _) => all_wrong(What::NotUnderstood),
+        Err(_) => all_wrong(What::NotUnderstood),
     }
 }
 

@@ -6,7 +6,6 @@
 mod words;
 
 use accounts::Accounts;
-use book::{Coded, Listed, Reading};
 use input::Progress;
 use lines::Writing;
 use questions::Way;
@@ -30,10 +29,8 @@ fn front(bytes: &[u8], length: usize) -> &[u8] {
 
 // The code of a permission; 0 where the book does not list it.
 fn code_of(book: &[u8], permission: u32) -> u64 {
-    match book::code_at(book, book::starts_in(book), permission as usize) {
-        Coded::Code(code) => code as u64,
-        Coded::NoSuchCode => 0,
-    }
+    let code = book::code_at(book, book::starts_in(book), permission as usize);
+    code.unwrap_or(0) as u64
 }
 
 // How many of the persons who are present hold the permission.
@@ -107,12 +104,12 @@ fn verdict(out: &mut [u8], at: usize, book: &[u8], accounts: Accounts, policy: P
 // The line of the book's policy with this index.
 fn line(out: &mut [u8], at: usize, book: &[u8], accounts: Accounts, index: usize) -> usize {
     match book::policy_at(book, index) {
-        Listed::Policy(policy) => {
+        Some(policy) => {
             let counted = text::decimal(out, at, index as u64);
             let told = verdict(out, counted, book, accounts, policy);
             text::put(out, told, b'\n')
         }
-        Listed::NoSuchPolicy => at,
+        None => at,
     }
 }
 
@@ -132,8 +129,8 @@ fn all_lines(book: &[u8], out: &mut [u8]) -> usize {
 // What is said of a book, at the front of the buffer: of a refused one the line that its sheet has.
 fn said(book: &[u8], out: &mut [u8]) -> usize {
     match book::read(book) {
-        Reading::Good(_) => all_lines(book, out),
-        Reading::Refused(_, _) => match lines::sheet(book, out) {
+        Ok(_) => all_lines(book, out),
+        Err(_) => match lines::sheet(book, out) {
             Writing::Written(length) => length,
             Writing::TooShort => 0,
         },

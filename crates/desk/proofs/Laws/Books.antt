@@ -1,7 +1,7 @@
 -- Request 07, for planners: "a book in which no two rows share a person (another is not taken, and says so)"; "the roster of such a book has the
 -- holdings of its rows, and its rows given back, with the book's codes and policies, write the same book in the old form"; one that names editions
 -- keeps its form, which says them. Assumes nothing.
-use Rattle.std.specs.Prelude.{◌≡◌, refl, false, ◌↔◌, ◌≢◌, List, [], ◌∷◌, ◌++◌, map, ℕ, zero, suc, ◌^◌, ◌≤◌, ◌<◌, get_or, drop}
+use Rattle.std.specs.Prelude.{◌≡◌, refl, false, ◌↔◌, ◌≢◌, List, [], ◌∷◌, ◌++◌, map, ℕ, zero, suc, ◌^◌, ◌≤◌, ◌<◌, get_or, drop, Result, Ok, Err, IsOk, is_ok}
 use Rattle.std.proofs.Common.{sym, ap, ap₂, ◌∙◌, subst, arith}
 use Rattle.std.proofs.Math.Path.{fun_ext}
 use Rattle.std.proofs.Math.Decide.{dec_lt}
@@ -22,41 +22,40 @@ use Rattle.questions.specs.Laws.Replies.{policy_as_before, named_as_before}
 use Rattle.book.specs.Layout.{Contents, form_has_persons, bytes_of, Own, Each, Ascends, Admitted}
 use Rattle.book.specs.Reading.{read_of}
 use Rattle.book.specs.Parts.{row_or0, contents_of, accounts_in}
-use Rattle.book.specs.Promises.{Bytes, row_by, accounts_for}
+use Rattle.book.specs.Promises.{Bytes, answered, accounts_for}
 use Rattle.book.proofs.Laws.Books.{good_layout}
 use Rattle.book.proofs.Laws.Old.{old_different}
 use Rattle.book.proofs.Laws.Parts.{layout_parts}
 use Rattle.book.proofs.Laws.Values.{each}
 use Rattle.book.specs.declared.Form.{Form}
 use Rattle.book.specs.declared.Form.TheVariants.{Old, Persons, Editions}
-use Rattle.book.specs.declared.Reading.TheVariants as read
 use Rattle.book.specs.declared.Row.{Row}
 use Rattle.book.specs.declared.Starts.{Starts}
 use Rattle.values.specs.Values.{nobody, contents_for, values_of}
 use Rattle.values.specs.Writing.{Writes}
 use Rattle.values.specs.Laws.Admitted.{admitted_none}
 use Rattle.values.specs.declared.Values.{Values}
-use Rattle.values.specs.declared.Wrote.{Wrote}
-use Rattle.values.specs.declared.Wrote.TheVariants.{Written}
-use Rattle.live.specs.Changes.{Call, told_of, after_from, table_of}
+use Rattle.live.specs.Changes.{empty, Call, told_of, after_from, table_of}
 use Rattle.live.specs.Plain.{answer_of, plain_from}
 use Rattle.live.specs.Agrees.{Agrees}
 use Rattle.live.proofs.Laws.Always.{always_from}
 use Rattle.live.specs.Laws.Twice.{Once, once_from}
 use Rattle.live.specs.declared.Roster.{Roster}
-use Rattle.desk.specs.Filled.{seated_by, seated, plain_rows, filled_from}
+use Rattle.desk.specs.Filled.{seated_by, seated, plain_rows, filled_from, roster_from}
 use Rattle.desk.specs.Back.{own_row, form_back, rows_back, given_back, in_back_form}
 use Rattle.desk.specs.Laws.Taken.{filled_shared, filled_taken, values_good, shares_none}
 use Rattle.desk.specs.Laws.Seated.{column_fit, seated_agrees, seated_once, seated_table}
 use Rattle.desk.proofs.Laws.Back.{back_of, back_ascends, back_admitted, back_contents, rows_back_lem}
-use Rattle.desk.specs.declared.Filled.{Filled}
-use Rattle.desk.specs.declared.Intake.TheVariants as intake
+use Rattle.std.specs.Result.{result_unwrap_or}
+use Rattle.values.specs.declared.NotWritten.{NotWritten}
+use Rattle.desk.specs.declared.NotTaken.TheVariants.{Shared}
+use Rattle.desk.specs.declared.NotTaken.{NotTaken}
 
 -- at most 32 permissions are listed
 narrower : (k x : ℕ) → k ≤ 32 → x < 2 ^ k → x < 2 ^ 32
 narrower k x h l = lt_of_bits 32 x (λ i b. bit_high x k i l (omega arith))
 
-row-or : (l : List Row) (i : ℕ) → row_or0 (row_by (get_elem? l i)) ≡ get_or l i nobody
+row-or : (l : List Row) (i : ℕ) → row_or0 (answered (get_elem? l i)) ≡ get_or l i nobody
 row-or [] i = refl
 row-or (x ∷ l) zero = refl
 row-or (x ∷ l) (suc i) = row-or l i
@@ -72,7 +71,7 @@ own-rows (x ∷ l) o = ap₂ (λ (y : Row) (m : List Row). y ∷ m) (one x o.0) 
 
 -- ---- a good book
 
-module _ (book : List ℕ) (s : Starts) (bytes : Bytes book) (good : read_of book ≡ read.Good s) where
+module _ (book : List ℕ) (s : Starts) (bytes : Bytes book) (good : read_of book ≡ Ok s) where
   abbrev rows : List Row
   rows = (contents_of book).rows
 
@@ -129,43 +128,46 @@ module _ (book : List ℕ) (s : Starts) (bytes : Bytes book) (good : read_of boo
   -- ---- taken or not
 
   -- it is taken exactly if no two of its rows share a person
-  pub taken_iff : ((filled_from book).intake ≡ intake.Taken) ↔ Different (accounts_in book)
+  pub taken_iff : IsOk (filled_from book) ↔ Different (accounts_in book)
   taken_iff = (
     λ e. (shares_none (accounts_in book) few).0 (all e (dec_lt (persons (accounts_in book)) (accounts_in book).rows)),
-    λ d. ap Filled.intake (filled_taken book s good ((shares_none (accounts_in book) few).1 d)),
+    λ d. ap is_ok (filled_taken book s good ((shares_none (accounts_in book) few).1 d)),
   )
     where
-      all : (filled_from book).intake ≡ intake.Taken → Dec (persons (accounts_in book) < (accounts_in book).rows)
+      all : IsOk (filled_from book) → Dec (persons (accounts_in book) < (accounts_in book).rows)
           → (accounts_in book).rows ≤ persons (accounts_in book)
-      all e (yes l) = let q = ap Filled.intake (filled_shared book s good l) in let z : ◌≡◌ {A = ℕ} 0 1 = cc in absurd (omega arith)
+      all e (yes l) = let q = ap is_ok (filled_shared book s good l) in let z : ◌≡◌ {A = ℕ} 0 1 = cc in absurd (omega arith)
       all e (no n) = omega arith
 
   -- and otherwise it says so
-  pub shared_iff : ((filled_from book).intake ≡ intake.Shared) ↔ (Different (accounts_in book) → ⊥)
+  pub shared_iff : (filled_from book ≡ Err Shared) ↔ (Different (accounts_in book) → ⊥)
   shared_iff = (there, λ n. back n (dec_lt (persons (accounts_in book)) (accounts_in book).rows))
     where
-      there : (filled_from book).intake ≡ intake.Shared → Different (accounts_in book) → ⊥
-      there e d = let q = taken_iff.1 d in let z : ◌≡◌ {A = ℕ} 0 1 = cc in omega arith
+      there : filled_from book ≡ Err Shared → Different (accounts_in book) → ⊥
+      there e d = let q = taken_iff.1 d in let f = ap is_ok e in let z : ◌≡◌ {A = ℕ} 0 1 = cc in omega arith
 
-      back : (Different (accounts_in book) → ⊥) → Dec (persons (accounts_in book) < (accounts_in book).rows) → (filled_from book).intake ≡ intake.Shared
-      back n (yes l) = ap Filled.intake (filled_shared book s good l)
+      back : (Different (accounts_in book) → ⊥) → Dec (persons (accounts_in book) < (accounts_in book).rows) → filled_from book ≡ Err Shared
+      back n (yes l) = filled_shared book s good l
       back n (no m) = absurd (n ((shares_none (accounts_in book) few).0 (omega arith)))
 
   -- ---- no two rows share a person
 
   module _ (different : Different (accounts_in book)) where
-    pub book_taken : filled_from book ≡ record { roster = seated rows; intake = intake.Taken }
+    pub book_taken : filled_from book ≡ Ok (seated rows)
     book_taken = filled_taken book s good ((shares_none (accounts_in book) few).1 different)
+
+    roster_is : roster_from book ≡ seated rows
+    roster_is = ap (λ (f : Result Roster NotTaken). result_unwrap_or f empty) book_taken
 
     -- and then any calls: the roster is what the plain list of the book's rows says after them, with the same answers, nobody stands twice, and the
     -- rows that it gives back ascend
     module _ (calls : List Call) where
       abbrev later : Roster
-      later = after_from (filled_from book).roster calls
+      later = after_from (roster_from book) calls
 
       pub book_always : Agrees later (plain_from (plain_rows rows) calls)
           × ((c : Call) → (told_of later c).outcome ≡ (answer_of (plain_from (plain_rows rows) calls) c).outcome)
-      book_always = rw book_taken (always_from (seated rows) (plain_rows rows) book_agrees calls)
+      book_always = rw roster_is (always_from (seated rows) (plain_rows rows) book_agrees calls)
 
       pub book_nobody-twice : Once (plain_from (plain_rows rows) calls)
       book_nobody-twice = once_from (plain_rows rows) book_once calls
@@ -176,25 +178,25 @@ module _ (book : List ℕ) (s : Starts) (bytes : Bytes book) (good : read_of boo
     -- asked of the roster, a question has the reply that it has of the book
     pub policy_as_book : (way : Way) (P away d t ed allowance : ℕ) → P < 2 ^ 32 → (r q : Reply)
         → PolicyAsked way (accounts_in book) P away d t ed allowance r
-        → PolicyReply way (table_of (filled_from book).roster) P away d t ed allowance q → r ≡ q
+        → PolicyReply way (table_of (roster_from book)) P away d t ed allowance q → r ≡ q
     policy_as_book way P away d t ed allowance wide r q k m =
         policy_as_before (accounts_in book) different way P away d t ed allowance wide r q k
-        (subst (λ (x : Table). PolicyReply way x P away d t ed allowance q) (ap (λ (f : Filled). table_of f.roster) book_taken ∙ book_table) m)
+        (subst (λ (x : Table). PolicyReply way x P away d t ed allowance q) (ap table_of roster_is ∙ book_table) m)
 
     pub named_as_book : (P d t ed A allowance : ℕ) → P < 2 ^ 32 → (r q : Reply) → NamedAsked (accounts_in book) P d t ed A allowance r
-        → NamedReply (table_of (filled_from book).roster) P d t ed A allowance q → r ≡ q
+        → NamedReply (table_of (roster_from book)) P d t ed A allowance q → r ≡ q
     named_as_book P d t ed A allowance wide r q k m =
         named_as_before (accounts_in book) different P d t ed A allowance wide r q k
-        (subst (λ (x : Table). NamedReply x P d t ed A allowance q) (ap (λ (f : Filled). table_of f.roster) book_taken ∙ book_table) m)
+        (subst (λ (x : Table). NamedReply x P d t ed A allowance q) (ap table_of roster_is ∙ book_table) m)
 
     -- "its rows given back, with the book's codes and policies, write the same book in the old form" (`older_back`), and one that names editions in its
     -- own
-    pub given_back_lem : contents_for (given_back (filled_from book).roster (values_of book)) ≡ in_back_form (contents_of book)
-    given_back_lem = ap (λ (f : Filled). contents_for (given_back f.roster (values_of book))) book_taken ∙ book_back
+    pub given_back_lem : contents_for (given_back (roster_from book) (values_of book)) ≡ in_back_form (contents_of book)
+    given_back_lem = ap (λ (f : Roster). contents_for (given_back f (values_of book))) roster_is ∙ book_back
 
-    pub writes_back_form : (old new : List ℕ) (r : Wrote) → Writes (contents_for (given_back (filled_from book).roster (values_of book))) old new r
+    pub writes_back_form : (old new : List ℕ) (r : Result ℕ NotWritten) → Writes (contents_for (given_back (roster_from book) (values_of book))) old new r
         → let same = bytes_of (in_back_form (contents_of book)) in
-        length same ≤ length old → (r ≡ Written (length same)) × (new ≡ same ++ drop (length same) old)
+        length same ≤ length old → (r ≡ Ok (length same)) × (new ≡ same ++ drop (length same) old)
     writes_back_form old new r w room =
         (subst (λ (v : Contents). Writes v old new r) given_back_lem w).written (admitted_none (in_back_form (contents_of book)) given_admitted) room
 
@@ -218,9 +220,9 @@ module _ (book : List ℕ) (s : Starts) (bytes : Bytes book) (good : read_of boo
         (λ (f : Form) (l : List Row). record { form = f; codes = (contents_of book).codes; rows = l; policies = (contents_of book).policies })
         (ap form_back old-form ∙ sym old-form) (own-rows rows (subst (λ (f : Form). Each (Own (form_has_persons f)) rows) old-form ok.own))
 
-    pub writes_same_book : (old new : List ℕ) (r : Wrote) → Writes (contents_for (given_back (filled_from book).roster (values_of book))) old new r
-        → length book ≤ length old → (r ≡ Written (length book)) × (new ≡ book ++ drop (length book) old)
+    pub writes_same_book : (old new : List ℕ) (r : Result ℕ NotWritten) → Writes (contents_for (given_back (roster_from book) (values_of book))) old new r
+        → length book ≤ length old → (r ≡ Ok (length book)) × (new ≡ book ++ drop (length book) old)
     writes_same_book old new r w room =
         let same : bytes_of (in_back_form (contents_of book)) ≡ book = ap bytes_of same_contents ∙ sym (good_layout book s bytes good).bytes in
         let out = writes_back_form old_book_different old new r w (omega (arith, ap length same)) in
-        (out.0 ∙ ap (λ (b : List ℕ). Written (length b)) same, out.1 ∙ ap (λ (b : List ℕ). b ++ drop (length b) old) same)
+        (out.0 ∙ ap {B = Result ℕ NotWritten} (λ (b : List ℕ). Ok (length b)) same, out.1 ∙ ap (λ (b : List ℕ). b ++ drop (length b) old) same)

@@ -1,5 +1,5 @@
 -- Which books are taken, and what each case of filling comes to: a good book is taken exactly if no two of its rows share a person. Assumes nothing.
-use Rattle.std.specs.Prelude.{◌≡◌, Bool, true, false, ◌⊎◌, ◌↔◌, List, ℕ, zero, suc, ◌+◌, ◌-◌, ◌≤◌, ◌<◌, get_or}
+use Rattle.std.specs.Prelude.{◌≡◌, Bool, true, false, ◌⊎◌, ◌↔◌, List, ℕ, zero, suc, ◌+◌, ◌-◌, ◌≤◌, ◌<◌, get_or, Result, Ok, Err}
 use Rattle.std.proofs.Common.{sym, ap, ◌∙◌, inl, inr, arith, lt-ltb, le-ltb}
 use Rattle.std.proofs.Math.Decide.{dec_lt}
 use Rattle.sets.specs.Arrays.{tabulate, at}
@@ -14,33 +14,30 @@ use Rattle.accounts.specs.declared.Accounts.{Accounts}
 use Rattle.book.specs.Layout.{Contents}
 use Rattle.book.specs.Reading.{read_of}
 use Rattle.book.specs.Parts.{contents_of, accounts_in}
-use Rattle.book.specs.declared.Fault.{Fault}
-use Rattle.book.specs.declared.Reading.{Reading}
-use Rattle.book.specs.declared.Reading.TheVariants as read
 use Rattle.book.specs.declared.Row.{Row}
 use Rattle.book.specs.declared.Starts.{Starts}
 use Rattle.values.specs.Values.{nobody, values_for, contents_by, values_of}
-use Rattle.desk.specs.Filled.{seated_by, seated, sharing, refused_with, filled_if, filled_by, filled_from}
-use Rattle.desk.specs.declared.Intake.TheVariants as intake
+use Rattle.desk.specs.Filled.{seated_by, seated, sharing, filled_if, filled_by, filled_from}
+use Rattle.desk.specs.declared.NotTaken.TheVariants.{Shared, Refused}
+use Rattle.book.specs.declared.FaultAt.{FaultAt}
 
 -- ---- the three cases
 
-pub filled_refused : (book : List ℕ) (fault : Fault) (place : ℕ) → read_of book ≡ read.Refused fault place
-    → filled_from book ≡ refused_with (intake.Refused fault place)
+pub filled_refused : (book : List ℕ) (fault : FaultAt) → read_of book ≡ Err fault → filled_from book ≡ Err (Refused fault)
 unfolding filled_from
-filled_refused book fault place e = ap (filled_by book) e
+filled_refused book fault e = ap (filled_by book) e
 
-by_sharing : (book : List ℕ) (s : Starts) (b : Bool) → read_of book ≡ read.Good s → sharing (accounts_in book) ≡ b
+by_sharing : (book : List ℕ) (s : Starts) (b : Bool) → read_of book ≡ Ok s → sharing (accounts_in book) ≡ b
     → filled_from book ≡ filled_if b (contents_of book).rows
 unfolding filled_from
 by_sharing book s b e h = ap (filled_by book) e ∙ ap (λ (x : Bool). filled_if x (contents_of book).rows) h
 
-pub filled_shared : (book : List ℕ) (s : Starts) → read_of book ≡ read.Good s → persons (accounts_in book) < (accounts_in book).rows
-    → filled_from book ≡ refused_with intake.Shared
+pub filled_shared : (book : List ℕ) (s : Starts) → read_of book ≡ Ok s → persons (accounts_in book) < (accounts_in book).rows
+    → filled_from book ≡ Err Shared
 filled_shared book s e h = by_sharing book s true e (lt-ltb (persons (accounts_in book)) (accounts_in book).rows h)
 
-pub filled_taken : (book : List ℕ) (s : Starts) → read_of book ≡ read.Good s → (accounts_in book).rows ≤ persons (accounts_in book)
-    → filled_from book ≡ record { roster = seated (contents_of book).rows; intake = intake.Taken }
+pub filled_taken : (book : List ℕ) (s : Starts) → read_of book ≡ Ok s → (accounts_in book).rows ≤ persons (accounts_in book)
+    → filled_from book ≡ Ok (seated (contents_of book).rows)
 filled_taken book s e h = by_sharing book s false e (le-ltb (persons (accounts_in book)) (accounts_in book).rows h)
 
 -- ---- rows out of the arrays of a book's values
@@ -64,9 +61,9 @@ seated_values v = rw (staff, held)
     held : tabulate 64 (λ i. (get_or array i nobody).holdings) ≡ tabulate 64 (λ i. (get_or v.rows i nobody).holdings)
     held = table_same 0 64 _ _ (λ i b. ap Row.holdings (row i b))
 
-pub values_good : (book : List ℕ) (s : Starts) → read_of book ≡ read.Good s → values_of book ≡ values_for (contents_of book)
+pub values_good : (book : List ℕ) (s : Starts) → read_of book ≡ Ok s → values_of book ≡ values_for (contents_of book)
 unfolding values_of
-values_good book s e = ap (λ (r : Reading). values_for (contents_by book r)) e
+values_good book s e = ap (λ (r : Result Starts FaultAt). values_for (contents_by book r)) e
 
 -- ---- fewer persons than rows: two rows share a person
 

@@ -2,6 +2,7 @@
 -- one (`sheet_fits`), and what is appended at its front leaves the rest as it was. Assumes nothing.
 -- ---- a buffer that is long enough
 -- ---- the sheet by the reader's reply
+use Rattle.std.specs.Prelude.{Result, Ok, Err}
 use mathlib.Core.Path.{◌≡◌, refl, sym, ap, ◌∙◌}
 use mathlib.Core.List.{List, ◌++◌}
 use Prim.Native.Nat.{ℕ, ◌+◌, ◌≤◌}
@@ -14,8 +15,6 @@ use Rattle.book.specs.Parts.{policy_count_of}
 use Rattle.book.specs.Promises.{Bytes}
 use Rattle.book.specs.declared.Fault.{Fault}
 use Rattle.book.specs.declared.Starts.{Starts}
-use Rattle.book.specs.declared.Reading.{Reading}
-use Rattle.book.specs.declared.Reading.TheVariants.{Good, Refused}
 use Rattle.lines.specs.declared.Writing.TheVariants.{Written}
 use Rattle.text.specs.Text.{Room, Appended}
 use Rattle.lines.specs.Lines.{bad_line}
@@ -23,6 +22,7 @@ use Rattle.lines.specs.Sheet.{lines_from, sheet_by, sheet_of, longest, Promised}
 use Rattle.lines.specs.Laws.Fits.{sheet_fits}
 use Rattle.text.specs.Laws.Appends.{read_as, all_stand, all_past}
 use Rattle.lines.proofs.sheet.Goals as goal
+use Rattle.book.specs.declared.FaultAt.{FaultAt}
 
 module _ (book old : List ℕ) (bytes : Bytes book) (long : longest ≤ length old) where
   roomy : Room (sheet_of book) old 0
@@ -40,31 +40,31 @@ module _ (book old : List ℕ) (bytes : Bytes book) (long : longest ≤ length o
       front : ◌≡◌ {A = ℕ} (0 + length (sheet_of book)) (length (sheet_of book))
       front = omega arith
 
-refused : (book : List ℕ) (r : Reading) (f : Fault) (n place : ℕ) → r ≡ read_of book → r ≡ Refused f place → n ≡ fault_number f
-    → bad_line n place ≡ sheet_of book
+bad : (book : List ℕ) (r : Result Starts FaultAt) (e : FaultAt) (n : ℕ) → r ≡ read_of book → r ≡ Err e → n ≡ fault_number e.fault
+    → bad_line n e.place ≡ sheet_of book
 unfolding sheet_of sheet_by
-refused book r f n place e q k = ap (λ (x : ℕ). bad_line x place) k ∙ ap (sheet_by book) (sym q ∙ e)
+bad book r e n h q k = ap (λ (x : ℕ). bad_line x e.place) k ∙ ap (sheet_by book) (sym q ∙ h)
 
-good : (book : List ℕ) (r : Reading) (s : Starts) → r ≡ read_of book → r ≡ Good s → lines_from book 0 (policy_count_of book) ≡ sheet_of book
+good : (book : List ℕ) (r : Result Starts FaultAt) (s : Starts) → r ≡ read_of book → r ≡ Ok s → lines_from book 0 (policy_count_of book) ≡ sheet_of book
 unfolding sheet_of sheet_by
 good book r s e q = ap (sheet_by book) (sym q ∙ e)
 
-pub returns-in-Refused : goal.returns-in-Refused
-returns-in-Refused c =
+pub returns-in-Err : goal.returns-in-Err
+returns-in-Err c =
     let a = c.args in
-    let bad : bad_line c.number.result c.in-Refused.place ≡ sheet_of a.book.now =
-    refused a.book.now c.read.result c.in-Refused.fault c.number.result c.in-Refused.place c.read.ensures.reply c.in-Refused.is c.number.ensures in
+    let one : bad_line c.number.result c.in-Err.refused.place ≡ sheet_of a.book.now =
+    bad a.book.now c.read.result c.in-Err.refused c.number.result c.read.ensures.reply c.in-Err.is c.number.ensures in
     record {
-      sheet = promised a.book.now a.out.now (λ i. (c.type_inv.book i).fits) c.if-out-lt-LONGEST.false _ _ (read_as bad c.bad_line.ensures);
+      sheet = promised a.book.now a.out.now (λ i. (c.type_inv.book i).fits) c.if-out-lt-LONGEST.false _ _ (read_as one c.bad_line.ensures);
       kept = refl;
       limits = (refl, refl, refl);
     }
 
-pub returns-in-Good : goal.returns-in-Good
-returns-in-Good c =
+pub returns-in-Ok : goal.returns-in-Ok
+returns-in-Ok c =
     let a = c.args in
     let lines : lines_from a.book.now 0 (policy_count_of a.book.now) ≡ sheet_of a.book.now =
-    good a.book.now c.read.result c.in-Good.field-0 c.read.ensures.reply c.in-Good.is in
+    good a.book.now c.read.result c.in-Ok.field-0 c.read.ensures.reply c.in-Ok.is in
     record {
       sheet = promised a.book.now a.out.now (λ i. (c.type_inv.book i).fits) c.if-out-lt-LONGEST.false _ _ (read_as lines c.all_lines.ensures);
       kept = refl;

@@ -1,5 +1,5 @@
 -- No sheet is longer than `longest`: at most 32 lines, each of at most 726 bytes, since a line names each person at most once. Assumes nothing.
-use Rattle.std.specs.Prelude.{◌≡◌, refl, Bool, ltb, get_or, take, Err, Ok, Result}
+use Rattle.std.specs.Prelude.{◌≡◌, refl, Bool, ltb, get_or, take, Err, Ok, Result, Option, Some, None}
 use Rattle.std.proofs.Common.{sym, ap, subst, ◌∙◌, ⊎_elim, lt_of_lt_of_le, length-take, pow_mono, get_or-take}
 use mathlib.Core.List.{List, [], ◌∷◌, map}
 use Rattle.std.proofs.Math.Bool.{true, false}
@@ -38,7 +38,7 @@ use Rattle.questions.specs.Replied.{behind, policy_answer_of}
 use Rattle.book.specs.Layout.{form_has_persons}
 use Rattle.book.specs.Faults.{fault_number}
 use Rattle.book.specs.Promises.{Bytes}
-use Rattle.book.specs.Reading.{fields_at, rows, policies_of, entry_at, form_of, starts_of, read_of}
+use Rattle.book.specs.Reading.{fields_at, rows, policies_of, entry_at, form_of, starts_of, read_of, refused}
 use Rattle.book.specs.Parts.{starts_in, row_place, row_from, row_by_number, row_or0, accounts_in, contents_of, policy_count_of, listed_by, policy_from, policy_place, policy_at}
 use Rattle.book.specs.Laws.Codec.{number_fits}
 use Rattle.book.proofs.Laws.Books.{reply, good_layout}
@@ -48,15 +48,13 @@ use Rattle.book.proofs.Laws.Prefix.{prefix_reply}
 use Rattle.book.proofs.Laws.Refused.{refused_place}
 use Rattle.book.specs.declared.Fault.{Fault}
 use Rattle.book.specs.declared.Fault.TheVariants.{Short, Permissions, Code, Rows, Staff, Holdings, Policies, Task, Policy as PolicyFault, Excess}
-use Rattle.book.specs.declared.Reading.{Reading}
-use Rattle.book.specs.declared.Reading.TheVariants as read
-use Rattle.book.specs.declared.Place.{Place}
-use Rattle.book.specs.declared.Place.TheVariants as place
 use Rattle.text.specs.Text.{decimal, marked, joined}
 use Rattle.lines.specs.Lines.{verdict_word, names, between_members, set_text, filled, between_crews, crews_text, sets_text, line_of, bad_line}
 use Rattle.lines.specs.Sheet.{allowance, way, numbers_in, reply_to, line_by, lines_from, sheet_by, sheet_of, longest}
 use Rattle.text.proofs.Laws.Decimal.{decimal-length}
 use Rattle.sets.proofs.Laws.Unions.{ones_of, Disjoint, disjoint_few}
+use Rattle.book.specs.declared.Starts.{Starts}
+use Rattle.book.specs.declared.FaultAt.{FaultAt}
 
 -- ---- how long lists are written
 
@@ -203,14 +201,14 @@ number-fits_32 a h i = go (ltb i (persons a)) (h _)
     go false h = omega arith
 
 module _ (book : List ℕ) (bytes : Bytes book) where
-  person-fits : (at : Place) → (row_or0 (row_from book at)).person < 2 ^ 32
+  person-fits : (at : Option ℕ) → (row_or0 (row_from book at)).person < 2 ^ 32
   unfolding fields_at
-  person-fits (place.At a) = go (form_has_persons (form_of book))
+  person-fits (Some a) = go (form_has_persons (form_of book))
     where
       go : (persons : Bool) → (entry_at (rows persons) book a).person < 2 ^ 32
       go false = number_fits 4 book a bytes
       go true = number_fits 4 book (a + 4) bytes
-  person-fits place.Nothing = omega arith
+  person-fits None = omega arith
 
   persons-fit : (row : ℕ) → get_or (accounts_in book).persons row 0 < 2 ^ 32
   unfolding accounts_in
@@ -236,11 +234,11 @@ module _ (book : List ℕ) (bytes : Bytes book) where
       made p wide (Ok tt) = answer-line (numbers_in book) numbers_fit index early (accounts_in book) p.task p.away p.crews p.size p.edition wide
       made p wide (Err refusal) = omega arith
 
-      at : (place : Place) → length (line_by book index (policy_from book place)) ≤ 726
-      at (place.At a) =
+      at : (place : Option ℕ) → length (line_by book index (policy_from book place)) ≤ 726
+      at (Some a) =
           let p = entry_at (policies_of (form_of book)) book a in
           made p (number_fits 4 book a bytes) (policy_ruling 0 p.task p.away p.crews p.size p.edition)
-      at place.Nothing = omega arith
+      at None = omega arith
 
   lines_fit : (n index : ℕ) → index + n ≤ 100 → length (lines_from book index n) ≤ 726 * n
   unfolding lines_from
@@ -255,7 +253,7 @@ module _ (book : List ℕ) (bytes : Bytes book) where
 
 -- ---- the line of a refused book: its first 1,093 bytes decide, and its place is none past them
 
-place_early : (book : List ℕ) (f : Fault) (at : ℕ) → read_of book ≡ read.Refused f at → at < 10000
+place_early : (book : List ℕ) (f : Fault) (at : ℕ) → read_of book ≡ refused f at → at < 10000
 place_early book f at e =
     omega (arith, refused_place (take 1093 book) f at (sym (prefix_reply book) ∙ e), length-take 1093 book)
 
@@ -281,7 +279,7 @@ fault_few (PolicyFault refusal) = refusal_few refusal
 fault_few Excess = omega arith
 
 -- it has at most 12 bytes
-pub bad_short : (book : List ℕ) (f : Fault) (at : ℕ) → read_of book ≡ read.Refused f at → length (bad_line (fault_number f) at) ≤ 12
+pub bad_short : (book : List ℕ) (f : Fault) (at : ℕ) → read_of book ≡ refused f at → length (bad_line (fault_number f) at) ≤ 12
 unfolding bad_line joined marked
 bad_short book f at e =
     simp length-append (omega (arith, decimal-length 1 (fault_number f) (fault_few f), decimal-length 3 at (place_early book f at e)))
@@ -296,8 +294,8 @@ sheet_fits book bytes = ⊎_elim good refused (reply book)
         let l = good_layout book (starts_of (form_of book) book) bytes g.reply in
         let e : policy_count_of book ≡ length (contents_of book).policies = (layout_parts (contents_of book) book l).policies in
         let many : policy_count_of book ≤ 32 = omega (arith, l.admitted.policies) in
-        omega (arith, lines_fit book bytes (policy_count_of book) 0 (omega arith), ap (λ (r : Reading). length (sheet_by book r)) g.reply)
+        omega (arith, lines_fit book bytes (policy_count_of book) 0 (omega arith), ap (λ (r : Result Starts FaultAt). length (sheet_by book r)) g.reply)
 
     refused : books.Refused book → length (sheet_of book) ≤ longest
     refused r =
-        omega (arith, bad_short book r.fault r.place r.reply, ap (λ (q : Reading). length (sheet_by book q)) r.reply)
+        omega (arith, bad_short book r.fault r.place r.reply, ap (λ (q : Result Starts FaultAt). length (sheet_by book q)) r.reply)

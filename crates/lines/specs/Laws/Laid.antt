@@ -1,5 +1,5 @@
 -- The sheet of a good book is a function of its values: of the persons that its accounts come to, and of its policies. Assumes nothing.
-use Rattle.std.specs.Prelude.{◌≡◌, ℕ, suc, ◌+◌, length, Result}
+use Rattle.std.specs.Prelude.{◌≡◌, ℕ, suc, ◌+◌, length, Result, Some}
 use Rattle.std.proofs.Math.Path.{refl, ap, ap₂}
 use Rattle.std.proofs.Common.{◌∙◌, arith}
 use mathlib.Core.List.{List, [], ◌∷◌, ◌++◌}
@@ -14,10 +14,9 @@ use Rattle.accounts.proofs.Laws.Rulings.{few_admitted}
 use Rattle.questions.specs.Replied.{behind}
 use Rattle.book.specs.Layout.{Contents, LayoutOf}
 use Rattle.book.specs.Parts.{policy_at}
-use Rattle.book.specs.Promises.{policy_by, accounts_for}
+use Rattle.book.specs.Promises.{answered, accounts_for}
 use Rattle.book.proofs.Laws.Books.{layout_good}
 use Rattle.book.proofs.Laws.Parts.{layout_parts}
-use Rattle.book.specs.declared.Listed.TheVariants as listed
 use Rattle.lines.specs.Lines.{line_of}
 use Rattle.lines.specs.Sheet.{allowance, way, answer_to, numbers_in, reply_to, line_by, lines_from, sheet_by, sheet_of}
 use Rattle.roster.specs.declared.Refusal.{Refusal}
@@ -43,12 +42,12 @@ module _ (v : Contents) (book : List ℕ) (l : LayoutOf v book) where
       ap (λ (x : Accounts). answer_to x p) (layout_parts v book l).accounts
       ∙ ap (λ (first : Result Unit Refusal). behind first (reply_over (people_of a) p)) (few_admitted a l.admitted.rows)
 
-  lines_laid : (index : ℕ) (policies : List Policy) → ((j : ℕ) → policy_at book (index + j) ≡ policy_by (get_elem? policies j))
+  lines_laid : (index : ℕ) (policies : List Policy) → ((j : ℕ) → policy_at book (index + j) ≡ answered (get_elem? policies j))
       → lines_from book index (length policies) ≡ lines_over (people_of (accounts_for v)) index policies
   unfolding lines_from lines_over line_by
   lines_laid index [] h = refl
   lines_laid index (p ∷ rest) h =
-      let here : policy_at book index ≡ listed.Policy p = ap (policy_at book) (omega arith) ∙ h 0 in
+      let here : policy_at book index ≡ Some p = ap (policy_at book) (omega arith) ∙ h 0 in
       let line = ap (line_by book index) here ∙ ap₂ (λ (n : List ℕ) (r : Reply). line_of n index r) numbers_laid (reply_laid p) in
       ap₂ (λ (one more : List ℕ). one ++ more) line (lines_laid (suc index) rest (λ j. ap (policy_at book) (omega arith) ∙ h (suc j)))
 

@@ -21,7 +21,7 @@ use Rattle.accounts.proofs.Laws.Merged.{not_numbered, own-persons}
 use Rattle.questions.specs.Laws.Replies.{policy_answered, policy_as_before}
 use Rattle.book.specs.Layout.{Contents, bytes_of, Own, OwnEdition, form_has_persons, form_has_editions, Each, Admitted, LayoutOf}
 use Rattle.book.specs.Parts.{row_or0}
-use Rattle.book.specs.Promises.{row_by, accounts_for}
+use Rattle.book.specs.Promises.{answered, accounts_for}
 use Rattle.book.proofs.Laws.Old.{old_different, older_edition}
 use Rattle.book.proofs.Laws.Parts.{layout_parts}
 use Rattle.book.proofs.Laws.View.{there, not_there}
@@ -39,7 +39,7 @@ use Rattle.printed.specs.Laws.Sheets.{sheet_line}
 
 -- "staff numbers by row", and 0 past the last
 abbrev pub staff_by : Contents → List ℕ
-staff_by v = tabulate row_limit (λ u. (row_or0 (row_by (get_elem? v.rows u))).staff)
+staff_by v = tabulate row_limit (λ u. (row_or0 (answered (get_elem? v.rows u))).staff)
 
 -- the reply to a policy over the table of the rows, under the first edition
 abbrev pub reply_before : Contents → Policy → Reply
@@ -52,7 +52,7 @@ old_numbers v book l old =
     (λ u h. go u (dec_lt u (length v.rows)))
   where
     staff : ℕ → ℕ
-    staff u = (row_or0 (row_by (get_elem? v.rows u))).staff
+    staff u = (row_or0 (answered (get_elem? v.rows u))).staff
 
     none-past : (u : ℕ) → length v.rows ≤ u → get_or (numbers_in book) u 0 ≡ 0
     none-past u h =
@@ -62,10 +62,10 @@ old_numbers v book l old =
     go : (u : ℕ) → Dec (u < length v.rows) → get_or (numbers_in book) u 0 ≡ staff u
     go u (yes h) =
         let (row, e) = there v.rows u h in
-        old_name v book l old u row e ∙ ap (λ (o : Option Row). (row_or0 (row_by o)).staff) (sym e)
+        old_name v book l old u row e ∙ ap (λ (o : Option Row). (row_or0 (answered o)).staff) (sym e)
     go u (no n) =
         let h : length v.rows ≤ u = omega arith in
-        none-past u h ∙ ap (λ (o : Option Row). (row_or0 (row_by o)).staff) (sym (not_there v.rows u h))
+        none-past u h ∙ ap (λ (o : Option Row). (row_or0 (answered o)).staff) (sym (not_there v.rows u h))
 
 never : Old ≢ Editions
 never e = let z : ◌≡◌ {A = ℕ} 0 1 = cc in omega arith

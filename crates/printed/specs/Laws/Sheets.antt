@@ -1,5 +1,5 @@
 -- The sheet of a book is one line for each of its policies, in order; that of a refused book is the line of its first fault. Assumes nothing.
-use Rattle.std.specs.Prelude.{◌≡◌, refl, ◌⊎◌, ℕ, zero, suc, ◌+◌, length}
+use Rattle.std.specs.Prelude.{◌≡◌, refl, ◌⊎◌, ℕ, zero, suc, ◌+◌, length, Some}
 use Rattle.std.proofs.Common.{sym, ap, ap₂, ◌∙◌, subst, inl, inr, ⊎_elim, arith}
 use Rattle.std.proofs.Math.Option.{some}
 use mathlib.Core.List.Memᴰ
@@ -10,11 +10,10 @@ use Rattle.book.specs.Layout.{Contents, LayoutOf}
 use Rattle.book.specs.Faults.{fault_number}
 use Rattle.book.specs.Reading.{form_of, starts_of}
 use Rattle.book.specs.Parts.{contents_of, policy_at}
-use Rattle.book.specs.Promises.{Bytes, FirstFault, policy_by}
+use Rattle.book.specs.Promises.{Bytes, FirstFault, answered}
 use Rattle.book.proofs.Laws.Books.{layout_good, first_fault_refused, reply, good_layout}
 use Rattle.book.proofs.Laws.Parts.{layout_parts}
 use Rattle.book.specs.declared.Fault.{Fault}
-use Rattle.book.specs.declared.Listed.TheVariants as listed
 use Rattle.text.specs.Text.{newline}
 use Rattle.text.specs.Cut.{Every, Lacks, lines_of, ended, HasLine}
 use Rattle.text.specs.Laws.Every.{every_none, every_cons}
@@ -38,12 +37,12 @@ lines_one book i [] = every_none (Lacks newline)
 lines_one book i (p ∷ l) = every_cons (line-one (numbers_in book) i (reply_to book p)) (lines_one book (suc i) l)
 
 -- where the policies from index i on are these, the lines from there on are theirs
-lines_from_lem : (book : List ℕ) (i : ℕ) (l : List Policy) → ((j : ℕ) → policy_at book (i + j) ≡ policy_by (get_elem? l j))
+lines_from_lem : (book : List ℕ) (i : ℕ) (l : List Policy) → ((j : ℕ) → policy_at book (i + j) ≡ answered (get_elem? l j))
     → lines_from book i (length l) ≡ ended (lines_for book i l)
 unfolding lines_for lines_from line_by ended
 lines_from_lem book i [] h = refl
 lines_from_lem book i (p ∷ l) h =
-    let here : policy_at book i ≡ listed.Policy p = ap (policy_at book) (omega arith) ∙ h 0 in
+    let here : policy_at book i ≡ Some p = ap (policy_at book) (omega arith) ∙ h 0 in
     let rest = lines_from_lem book (suc i) l (λ j. ap (policy_at book) (omega arith) ∙ h (suc j)) in
     ap₂ (λ (one more : List ℕ). one ++ more) (ap (line_by book i) here ∙ line_text_lem (numbers_in book) i (reply_to book p)) rest
     ∙ append_assoc (line_at book i p) (newline ∷ []) (ended (lines_for book (suc i) l))

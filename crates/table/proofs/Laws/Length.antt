@@ -1,7 +1,6 @@
 -- No table of admitted values is longer than `longest`, and one is as long. Assumes nothing.
-use Rattle.std.specs.Prelude.{◌≡◌, ℕ, zero, suc, ◌+◌, ◌-◌, ◌*◌, ◌^◌, ◌<◌, ◌≤◌, Bool, true, false, List, [], ◌∷◌, ◌++◌, map, length, refl}
+use Rattle.std.specs.Prelude.{◌≡◌, ℕ, zero, suc, ◌+◌, ◌-◌, ◌*◌, ◌^◌, ◌<◌, ◌≤◌, Bool, true, false, List, [], ◌∷◌, ◌++◌, map, length, refl, Result, None}
 use Rattle.std.proofs.Common.{ap, ◌∙◌, ⊎_elim, mul-suc, length-append}
-use Rattle.std.proofs.Math.Option.{none}
 use native.Mathlib.Omega.{arith}
 use Rattle.sets.specs.Arrays.{tabulate}
 use Rattle.sets.specs.Mask.{bit}
@@ -16,7 +15,6 @@ use Rattle.book.proofs.Laws.Values.{each, each_both}
 use Rattle.book.specs.Parts.{contents_of}
 use Rattle.book.specs.Promises.{Bytes}
 use Rattle.book.specs.Reading.{form_of, starts_of}
-use Rattle.book.specs.declared.Reading.{Reading}
 use Rattle.book.specs.declared.Form.TheVariants.{Editions}
 use Rattle.book.specs.declared.Row.{Row}
 use Rattle.text.specs.Text.{quoted, comma, decimal_in, decimal, joined, marked}
@@ -26,6 +24,8 @@ use Rattle.values.specs.Writing.{value_looks, first_of, fault_in}
 use Rattle.lines.specs.Laws.Fits.{total, marked-length, bad_short}
 use Rattle.table.specs.Table.{only_if, mark, marks, row_heading, row_cells, policy_heading, policy_cells, line_of, row_lines, policy_lines, table_text_of}
 use Rattle.table.specs.Shown.{shown_by, shown_of, longest}
+use Rattle.book.specs.declared.Starts.{Starts}
+use Rattle.book.specs.declared.FaultAt.{FaultAt}
 
 -- ---- cells, each with its comma
 
@@ -165,7 +165,7 @@ widest = record {
 }
 
 -- the writer finds no fault with it
-pub widest_sound : fault_in widest ≡ none
+pub widest_sound : fault_in widest ≡ None
 unfolding tabulate policy_ruling first_of value_looks
 widest_sound = refl
 
@@ -181,7 +181,7 @@ shown-fits book bytes = ⊎_elim good refused (reply book)
     good : books.Good book → length (shown_of book) ≤ longest
     good g =
         let l = good_layout book (starts_of (form_of book) book) bytes g.reply in
-        omega (arith, table_fits (contents_of book) l.admitted, ap (λ (r : Reading). length (shown_by book r)) g.reply)
+        omega (arith, table_fits (contents_of book) l.admitted, ap (λ (r : Result Starts FaultAt). length (shown_by book r)) g.reply)
 
     refused : books.Refused book → length (shown_of book) ≤ longest
-    refused r = omega (arith, bad_short book r.fault r.place r.reply, ap (λ (q : Reading). length (shown_by book q)) r.reply)
+    refused r = omega (arith, bad_short book r.fault r.place r.reply, ap (λ (q : Result Starts FaultAt). length (shown_by book q)) r.reply)

@@ -1,7 +1,7 @@
 -- The text tells the book: admitted values of one text are the same values, form and all. A text is cut at its newlines and a line at its commas in
 -- one way only; the headings tell form and codes, the empty line where the policies begin, and no two numbers and no two sets are written alike.
 -- Assumes nothing.
-use Rattle.std.specs.Prelude.{◌≡◌, ℕ, zero, suc, ◌/◌, ◌%◌, ◌^◌, ◌<◌, ◌≤◌, Bool, true, false, ◌≢◌, List, [], ◌∷◌, ◌++◌, map, length, slice_index_or, refl}
+use Rattle.std.specs.Prelude.{◌≡◌, ℕ, zero, suc, ◌/◌, ◌%◌, ◌^◌, ◌<◌, ◌≤◌, Bool, true, false, ◌≢◌, List, [], ◌∷◌, ◌++◌, map, length, slice_index_or, refl, Ok}
 use Rattle.std.proofs.Common.{sym, ap, ap₂, ◌∙◌, subst, arith, length-append}
 use mathlib.Core.List.{Memᴰ, head-eq_of_cons-eq, tail-eq_of_cons-eq}
 use Rattle.std.proofs.Math.Decide.{dec_lt}
@@ -15,7 +15,6 @@ use Rattle.book.proofs.Laws.Books.{good_layout}
 use Rattle.book.specs.Parts.{contents_of}
 use Rattle.book.specs.Promises.{Bytes}
 use Rattle.book.specs.Reading.{read_of}
-use Rattle.book.specs.declared.Reading.TheVariants.{Good}
 use Rattle.book.specs.declared.Starts.{Starts}
 use Rattle.book.specs.Laws.Values.{RowFits}
 use Rattle.book.proofs.Laws.Values.{each-row-fits, each_both}
@@ -333,7 +332,7 @@ text_tells a b h k e =
     contents_same form rows.1 (rows_told a b h k form rows.1 (tail-eq_of_cons-eq parts.0)) (policies-told a b h k form rows.1 (tail-eq_of_cons-eq parts.1))
 
 -- so good books of one table are one book, byte for byte
-pub table_tells : (a b : List ℕ) (s t : Starts) → Bytes a → Bytes b → read_of a ≡ Good s → read_of b ≡ Good t
+pub table_tells : (a b : List ℕ) (s t : Starts) → Bytes a → Bytes b → read_of a ≡ Ok s → read_of b ≡ Ok t
     → table_text_of (contents_of a) ≡ table_text_of (contents_of b) → a ≡ b
 table_tells a b s t h k e f same =
     let of-a = good_layout a s h e in

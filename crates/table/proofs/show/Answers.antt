@@ -1,14 +1,12 @@
 -- The reader's reply picks the `bad` line of a refused book or the table of a good one. A buffer that is as long as the longest table has room for
 -- either (`shown-fits`), and what is appended at its front leaves the rest as it was. Assumes nothing.
+use Rattle.std.specs.Prelude.{Result, Ok, Err}
 use Rattle.std.proofs.Common.{◌≡◌, ℕ, ◌+◌, ◌≤◌, List, ◌++◌, length, drop, sym, refl, ap, ◌∙◌, subst, arith}
 use lib.Seq.{sets-eq}
 use Rattle.book.specs.Faults.{fault_number}
 use Rattle.book.specs.Reading.{read_of}
 use Rattle.book.specs.Promises.{Bytes}
-use Rattle.book.specs.declared.Fault.{Fault}
 use Rattle.book.specs.declared.Starts.{Starts}
-use Rattle.book.specs.declared.Reading.{Reading}
-use Rattle.book.specs.declared.Reading.TheVariants.{Good, Refused}
 use Rattle.text.specs.Text.{Room, Appended}
 use Rattle.text.specs.Laws.Appends.{read_as, all_stand, all_past}
 use Rattle.lines.specs.Lines.{bad_line}
@@ -22,6 +20,7 @@ use Rattle.table.specs.Laws.Counted.{book_counted}
 use Rattle.table.proofs.Laws.Length.{shown-fits}
 use Rattle.table.proofs.show.Goals as goal
 use Rattle.table.proofs.show.Goals.{After-shared_slice_known-1}
+use Rattle.book.specs.declared.FaultAt.{FaultAt}
 
 -- ---- a buffer that is long enough
 
@@ -29,10 +28,10 @@ module _ (book old : List ℕ) (bytes : Bytes book) (long : longest ≤ length o
   roomy : Room (shown_of book) old 0
   roomy = omega (arith, shown-fits book bytes)
 
-  promised : (r : Reading) → r ≡ read_of book → (new : List ℕ) (n : ℕ) → Appended (shown_of book) old 0 new n → Shows book old new (shown_as r n)
+  promised : (r : Result Starts FaultAt) → r ≡ read_of book → (new : List ℕ) (n : ℕ) → Appended (shown_of book) old 0 new n → Shows book old new (shown_as r n)
   promised r e new n a = record {
     written = λ h. (
-      ap (λ (q : Reading). shown_as q n) e ∙ ap (shown_as (read_of book)) (all_past roomy a ∙ front),
+      ap (λ (q : Result Starts FaultAt). shown_as q n) e ∙ ap (shown_as (read_of book)) (all_past roomy a ∙ front),
       all_stand roomy a ∙ sets-eq (shown_of book) old 0 roomy ∙ ap (λ (k : ℕ). shown_of book ++ drop k old) front,
     );
     short = λ h. absurd (omega arith);
@@ -43,11 +42,11 @@ module _ (book old : List ℕ) (bytes : Bytes book) (long : longest ≤ length o
 
 -- ---- what is shown, by the reader's reply
 
-bad : (book : List ℕ) (f : Fault) (n place : ℕ) → Refused f place ≡ read_of book → n ≡ fault_number f → bad_line n place ≡ shown_of book
+bad : (book : List ℕ) (x : FaultAt) (n : ℕ) → Err x ≡ read_of book → n ≡ fault_number x.fault → bad_line n x.place ≡ shown_of book
 unfolding shown_of shown_by
-bad book f n place e k = ap (λ (x : ℕ). bad_line x place) k ∙ ap (shown_by book) e
+bad book x n e k = ap (λ (y : ℕ). bad_line y x.place) k ∙ ap (shown_by book) e
 
-good : (book : List ℕ) (s : Starts) (v : Values) → Bytes book → Good s ≡ read_of book → v ≡ values_of book → table_text_of (contents_for v) ≡ shown_of book
+good : (book : List ℕ) (s : Starts) (v : Values) → Bytes book → Ok s ≡ read_of book → v ≡ values_of book → table_text_of (contents_for v) ≡ shown_of book
 unfolding shown_of shown_by
 good book s v bytes e k =
     ap (λ (x : Values). table_text_of (contents_for x)) k ∙ ap table_text_of (values_of_good book s bytes (sym e)) ∙ ap (shown_by book) e
@@ -59,20 +58,20 @@ is_bytes c i = (c.shared_slice_known-1.given i).fits
 pub put_table-requires : goal.put_table-requires
 put_table-requires c = subst Counted (sym c.of_book.ensures.reply) (book_counted c.args.book.now (is_bytes (goal.at.put_table-requires c).After-shared_slice_known-1))
 
-pub returns-in-Refused : goal.returns-in-Refused
-returns-in-Refused c = let a = c.args in
-    let e = sym c.in-Refused.is ∙ c.read.ensures.reply in record {
-      shown = promised a.book.now a.out.now (is_bytes (goal.at.returns-in-Refused c).After-shared_slice_known-1) c.if-out-lt-LONGEST.false (Refused c.in-Refused.fault c.in-Refused.place) e _ _
-          (read_as (bad a.book.now c.in-Refused.fault c.number.result c.in-Refused.place e c.number.ensures) c.bad_line.ensures);
+pub returns-in-Err : goal.returns-in-Err
+returns-in-Err c = let a = c.args in
+    let e = sym c.in-Err.is ∙ c.read.ensures.reply in record {
+      shown = promised a.book.now a.out.now (is_bytes (goal.at.returns-in-Err c).After-shared_slice_known-1) c.if-out-lt-LONGEST.false (Err c.in-Err.refused) e _ _
+          (read_as (bad a.book.now c.in-Err.refused c.number.result e c.number.ensures) c.bad_line.ensures);
       kept = refl;
       limit = refl;
     }
 
-pub returns-in-Good : goal.returns-in-Good
-returns-in-Good c = let a = c.args in
-    let e = sym c.in-Good.is ∙ c.read.ensures.reply in record {
-      shown = promised a.book.now a.out.now (is_bytes (goal.at.returns-in-Good c).After-shared_slice_known-1) c.if-out-lt-LONGEST.false (Good c.in-Good.field-0) e _ _
-          (read_as (good a.book.now c.in-Good.field-0 c.of_book.result (is_bytes (goal.at.returns-in-Good c).After-shared_slice_known-1) e c.of_book.ensures.reply) c.put_table.ensures);
+pub returns-in-Ok : goal.returns-in-Ok
+returns-in-Ok c = let a = c.args in
+    let e = sym c.in-Ok.is ∙ c.read.ensures.reply in record {
+      shown = promised a.book.now a.out.now (is_bytes (goal.at.returns-in-Ok c).After-shared_slice_known-1) c.if-out-lt-LONGEST.false (Ok c.in-Ok.field-0) e _ _
+          (read_as (good a.book.now c.in-Ok.field-0 c.of_book.result (is_bytes (goal.at.returns-in-Ok c).After-shared_slice_known-1) e c.of_book.ensures.reply) c.put_table.ensures);
       kept = refl;
       limit = refl;
     }
