@@ -23,10 +23,8 @@ pub fn word(out: &mut [u8], at: usize, bytes: &[u8]) -> usize
     ensures kept { bytes.exit.now ≡ bytes.entry.now }
 {
     let mut next = at;
-    let mut i = 0;
-    while i < bytes.len() {
-        next = put(out, next, bytes[i]);
-        i += 1;
+    for &byte in bytes {
+        next = put(out, next, byte);
     }
     next
 }

@@ -1,11 +1,7 @@
--- The loop's invariant: the first i bytes of the word are appended. Assumes nothing.
-use Prim.Native.Nat.{◌-◌, ◌≤◌}
-use lib.ListN.{length, take}
+-- The loop's invariant: the bytes of the word so far are appended. Assumes nothing.
+use Rattle.std.proofs.Common.{take}
 use Rattle.text.specs.Text.{Appended}
 use Rattle.text.proofs.word.Given as goal
 
-abbrev pub invariant-loop-i : goal.invariant-loop-i
-invariant-loop-i l = (l.i ≤ length l.bytes) × Appended (take l.i l.bytes) l.initial.out l.at l.out l.next
-
-abbrev pub decreases-loop-i : goal.decreases-loop-i
-decreases-loop-i l = length l.bytes - l.i
+abbrev pub invariant-loop-byte : goal.invariant-loop-byte
+invariant-loop-byte l = Appended (take l.byte-index l.bytes) l.initial.out l.at l.out l.next
