@@ -3,18 +3,17 @@
 #![tactic(auto)]
 
 ghost use Rattle.std.specs.Prelude.{◌≡◌, ◌+◌, ◌-◌, ◌≤◌, length, IfSome};
-ghost use Rattle.input.specs.Input.{grown_by, after_read, answer, Moved, OneRead, Settled};
+ghost use Rattle.input.specs.Input.{grown_by, after_read, Moved, OneRead, Settled};
 
 use std::fs::File;
 use std::io;
 use std::io::Read;
 use std::rt::Files;
 
-// What is known of the input: that it cannot be read; that it is whole, with so many bytes at the front of the buffer; or that so many are
-// there and more may follow.
+// What is known of an input that can be read: that it is whole, with so many bytes at the front of the buffer; or that so many are there and more
+// may follow.
 #[derive(Clone, Copy)]
-pub enum Progress {
-    Failed,
+enum Progress {
     Whole(usize),
     More(usize),
 }
@@ -36,18 +35,17 @@ fn grown_by(room: usize, have: usize, more: usize) -> Progress
 }
 
 // What a read's answer says, where so many bytes were there before it.
-fn after_read(room: usize, have: usize, got: io::Result<usize>) -> Progress
-    requires { (have ≤ room) × Moved (room - have) (answer got) }
-    ensures { result ≡ after_read room have (answer got) }
+#[tactic(auto, unfolding(crate::specs::Input::after_read))]
+fn after_read(room: usize, have: usize, got: io::Result<usize>) -> io::Result<Progress>
+    requires { (have ≤ room) × Moved (room - have) got }
+    ensures { result ≡ after_read room have got }
 {
-    let Ok(more) = got else {
-        return Progress::Failed;
-    };
-    grown_by(room, have, more)
+    let more = got?;
+    Ok(grown_by(room, have, more))
 }
 
 // One read, behind the bytes that are there already, which stay as they are.
-fn read_on<R: Read>(from: &mut R, buffer: &mut [u8], have: usize) -> Progress
+fn read_on<R: Read>(from: &mut R, buffer: &mut [u8], have: usize) -> io::Result<Progress>
     requires { have ≤ length buffer.old }
     ensures { OneRead have buffer.old buffer.new result }
 {
@@ -56,18 +54,18 @@ fn read_on<R: Read>(from: &mut R, buffer: &mut [u8], have: usize) -> Progress
     after_read(room, have, got)
 }
 
-// Reads until the input is whole or a read fails, in however many pieces it comes. A full buffer is whole: the caller lends as many bytes as decide.
-pub fn read_all<R: Read>(from: &mut R, buffer: &mut [u8]) -> Progress
+// Reads until the input is whole, in however many pieces it comes, and answers how many bytes it has. A full buffer is whole: the caller lends as
+// many bytes as decide.
+pub fn read_all<R: Read>(from: &mut R, buffer: &mut [u8]) -> io::Result<usize>
     ensures settled { Settled result buffer.new }
     ensures long { length buffer.new ≡ length buffer.old }
 {
     let mut have = 0;
     loop {
-        let input = read_on(from, buffer, have);
-        let Progress::More(more) = input else {
-            return input;
-        };
-        have = more;
+        match read_on(from, buffer, have)? {
+            Progress::Whole(size) => return Ok(size),
+            Progress::More(more) => have = more,
+        }
     }
 }
 
@@ -78,14 +76,10 @@ pub fn read_full<R: Read>(from: &mut R, buffer: &mut [u8]) -> usize
 {
     let mut count = 0;
     while count < buffer.len() {
-        let got = from.read(&mut buffer[count..]);
-        let Ok(more) = got else {
-            return count;
-        };
-        if more == 0 {
-            return count;
+        match from.read(&mut buffer[count..]) {
+            Ok(0) | Err(_) => return count,
+            Ok(more) => count += more,
         }
-        count += more;
     }
     count
 }
@@ -95,8 +89,6 @@ pub fn read_file<F: Files>(files: &F, path: &str, buffer: &mut [u8]) -> Option<u
     ensures within { IfSome result (λ n. n ≤ length buffer.new) }
     ensures long { length buffer.new ≡ length buffer.old }
 {
-    match File::open(files, path) {
-        Ok(mut file) => Some(read_full(&mut file, buffer)),
-        Err(_) => None,
-    }
+    let mut file = File::open(files, path).ok()?;
+    Some(read_full(&mut file, buffer))
 }

@@ -12,8 +12,8 @@ ghost use Rattle.table.specs.Understood.{understood};
 ghost use Rattle.table.specs.Making.{BookOf};
 ghost use Rattle.make.specs.Said.{BookOfInput, Tells};
 
-use input::Progress;
-use output::Said;
+use output::{Said, Stream};
+use std::io;
 use table::Making;
 
 // No complaint is longer: two numbers of at most twenty digits, and fewer than 200 bytes besides. No book is longer either.
@@ -26,26 +26,26 @@ fn made(table: &[u8], out: &mut [u8]) -> Said
 {
     match table::make(table, out) {
         Making::Made(length) => Said {
-            stream: output::OUTPUT,
-            length: length,
+            stream: Stream::Output,
+            length,
         },
         Making::Wrong(trouble) => Said {
-            stream: output::ERRORS,
+            stream: Stream::Errors,
             length: words::line(out, trouble),
         },
         Making::TooShort => Said {
-            stream: output::ERRORS,
+            stream: Stream::Errors,
             length: 0,
         },
     }
 }
 
 // What is said of the input that was read.
-fn answer(table: &[u8], input: Progress, out: &mut [u8]) -> Said
+fn answer(table: &[u8], input: io::Result<usize>, out: &mut [u8]) -> Said
     requires { Settled input table.now × (longest ≤ length out.old) }
     ensures { Tells (BookOfInput table.now input) out.new result }
 {
-    let Progress::Whole(size) = input else {
+    let Ok(size) = input else {
         return output::complaint(b"book: standard input cannot be read\n", out);
     };
     made(&table[..size], out)

@@ -8,15 +8,17 @@ ghost use Rattle.output.specs.Says.{errors, Says};
 
 use std::io::Write;
 
-// The streams by their numbers: standard output and standard error.
-pub const OUTPUT: i32 = 1;
-
-pub const ERRORS: i32 = 2;
+// The streams: standard output and standard error.
+#[derive(Clone, Copy)]
+pub enum Stream {
+    Output,
+    Errors,
+}
 
 // What is to be written: so many bytes from the front of the buffer, to this stream.
 #[derive(Clone, Copy)]
 pub struct Said {
-    pub stream: i32,
+    pub stream: Stream,
     pub length: usize,
 }
 
@@ -27,28 +29,18 @@ pub fn complaint(words: &[u8], out: &mut [u8]) -> Said
 {
     let length = text::word(out, 0, words);
     Said {
-        stream: ERRORS,
-        length: length,
+        stream: Stream::Errors,
+        length,
     }
 }
 
-// The first bytes of a buffer; all of it where there are not so many.
-fn front(bytes: &[u8], length: usize) -> &[u8] {
-    if length <= bytes.len() {
-        &bytes[0..length]
-    } else {
-        bytes
-    }
-}
-
-// Writes what is said, and answers whether all of it was written. There is no other stream than the two that are lent here.
+// Writes what is said, all of the buffer where that has not so many bytes, and answers whether all of it was written.
 pub fn written<W: Write, E: Write>(output: &mut W, errors: &mut E, said: Said, out: &[u8]) -> bool
     ensures kept { out.exit.now ≡ out.entry.now }
 {
-    let text = front(out, said.length);
+    let text = out.get(..said.length).unwrap_or(out);
     match said.stream {
-        OUTPUT => output.write_all(text).is_ok(),
-        ERRORS => errors.write_all(text).is_ok(),
-        _ => false,
+        Stream::Output => output.write_all(text).is_ok(),
+        Stream::Errors => errors.write_all(text).is_ok(),
     }
 }

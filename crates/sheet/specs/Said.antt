@@ -1,21 +1,18 @@
 -- What the program says, and on which stream. Nothing here is proved: these are definitions.
-use Rattle.std.specs.Prelude.{List, ℕ, ℤ, take}
+use Rattle.std.specs.Prelude.{List, ℕ, Result, Ok, Err, take}
 use Rattle.text.specs.Text.{quoted}
 use Rattle.lines.specs.Sheet.{sheet_of}
+use Rattle.output.specs.declared.Stream.{Stream}
 use Rattle.output.specs.Says.{output, errors}
-use Rattle.input.specs.declared.Progress.{Progress}
-use Rattle.input.specs.declared.Progress.TheVariants.{Failed, Whole, More}
 
 abbrev pub unreadable : List ℕ
 unreadable = quoted "sheet: standard input cannot be read\n"
 
--- what is said of an input: the sheet of a whole one goes to standard output; of any other there is a complaint on standard error and nothing else
-unfoldable pub stream_of : Progress → ℤ
-stream_of (Whole n) = output
-stream_of Failed = errors
-stream_of (More n) = errors
+-- what is said of an input: the sheet of a whole one goes to standard output; of one that cannot be read there is a complaint on standard error and nothing else
+unfoldable pub stream_of : {E : Type 0} → Result ℕ E → Stream
+stream_of (Ok n) = output
+stream_of (Err e) = errors
 
-unfoldable pub text_of : List ℕ → Progress → List ℕ
-text_of buffer (Whole n) = sheet_of (take n buffer)
-text_of buffer Failed = unreadable
-text_of buffer (More n) = unreadable
+unfoldable pub text_of : {E : Type 0} → List ℕ → Result ℕ E → List ℕ
+text_of buffer (Ok n) = sheet_of (take n buffer)
+text_of buffer (Err e) = unreadable

@@ -9,16 +9,16 @@ ghost use Rattle.input.specs.Input.{Settled};
 ghost use Rattle.output.specs.Says.{Says};
 ghost use Rattle.sheet.specs.Said.{stream_of, text_of};
 
-use input::Progress;
 use lines::Writing;
-use output::Said;
+use output::{Said, Stream};
+use std::io;
 
 // What is said of the input that was read: the sheet of a whole one, else a complaint.
-fn answer(book: &[u8], input: Progress, out: &mut [u8]) -> Said
+fn answer(book: &[u8], input: io::Result<usize>, out: &mut [u8]) -> Said
     requires { Settled input book.now × (longest ≤ length out.old) }
     ensures { Says (stream_of input) (text_of book.now input) out.old out.new result }
 {
-    let Progress::Whole(size) = input else {
+    let Ok(size) = input else {
         return output::complaint(b"sheet: standard input cannot be read\n", out);
     };
     let length = match lines::sheet(&book[..size], out) {
@@ -26,8 +26,8 @@ fn answer(book: &[u8], input: Progress, out: &mut [u8]) -> Said
         Writing::TooShort => 0,
     };
     Said {
-        stream: output::OUTPUT,
-        length: length,
+        stream: Stream::Output,
+        length,
     }
 }
 

@@ -7,8 +7,7 @@ use lib.ListN.{length, take}
 use Rattle.lines.specs.declared.Writing.{Writing}
 use Rattle.lines.specs.declared.Writing.TheVariants.{Written}
 use Rattle.lines.specs.Sheet.{sheet_of, longest, Promised}
-use Rattle.input.specs.declared.Progress.{Progress}
-use Rattle.input.specs.declared.Progress.TheVariants.{Failed, Whole, More}
+use Rattle.std.proofs.Common.{Result, Ok, Err}
 use Rattle.output.specs.declared.Said.{Said}
 use Rattle.output.specs.Says.{output, errors, Says}
 use Rattle.output.specs.Laws.{all_said}
@@ -20,20 +19,19 @@ written : (book old new : List ℕ) (w : Writing) → Promised book old new w �
     → Says output (sheet_of book) old new (record { stream = output; length = n })
 written book old new w p long n e = record { on = refl; long = cc (p.written long).0; front = (p.written long).1 }
 
-complains : (buffer old new : List ℕ) (input : Progress) (r : Said) → ((n : ℕ) → input ≡ Whole n → ⊥) → Says errors unreadable old new r
+complains : {E : Type 0} (buffer old new : List ℕ) (input : Result ℕ E) (r : Said) → ((n : ℕ) → input ≡ Ok n → ⊥) → Says errors unreadable old new r
     → Says (stream_of input) (text_of buffer input) old new r
 unfolding stream_of text_of
-complains buffer old new Failed r k s = s
-complains buffer old new (Whole n) r k s = absurd (k n refl)
-complains buffer old new (More n) r k s = s
+complains buffer old new (Err e) r k s = s
+complains buffer old new (Ok n) r k s = absurd (k n refl)
 
-whole : (buffer old new : List ℕ) (input : Progress) (n : ℕ) (r : Said) → input ≡ Whole n → Says output (sheet_of (take n buffer)) old new r
+whole : {E : Type 0} (buffer old new : List ℕ) (input : Result ℕ E) (n : ℕ) (r : Said) → input ≡ Ok n → Says output (sheet_of (take n buffer)) old new r
     → Says (stream_of input) (text_of buffer input) old new r
 unfolding stream_of text_of
-whole buffer old new input n r e s = subst (λ (p : Progress). Says (stream_of p) (text_of buffer p) old new r) (sym e) s
+whole {E} buffer old new input n r e s = subst (λ (p : Result ℕ E). Says (stream_of p) (text_of buffer p) old new r) (sym e) s
 
 pub returns-in_default : goal.returns-in_default
-returns-in_default c = complains _ _ _ _ _ c.in_default.not-Whole (all_said unreadable (omega (arith, c.requires.1)) c.complaint.ensures.said)
+returns-in_default c = complains _ _ _ _ _ c.in_default.not-Ok (all_said unreadable (omega (arith, c.requires.1)) c.complaint.ensures.said)
 
 pub returns-in-Written : goal.returns-in-Written
-returns-in-Written c = whole _ _ _ _ _ _ c.in-Whole.is (written _ _ _ _ c.sheet.ensures.sheet c.requires.1 _ c.in-Written.is)
+returns-in-Written c = whole _ _ _ _ _ _ c.in-Ok.is (written _ _ _ _ c.sheet.ensures.sheet c.requires.1 _ c.in-Written.is)

@@ -10,25 +10,23 @@ use Rattle.book.specs.declared.Reading.TheVariants.{Good, Refused}
 use Rattle.table.specs.declared.Shown.{Shown}
 use Rattle.table.specs.declared.Shown.TheVariants.{Table, Bad, TooShort}
 use Rattle.table.specs.Shown.{shown_of, shown_as, longest, Shows}
-use Rattle.input.specs.declared.Progress.{Progress}
-use Rattle.input.specs.declared.Progress.TheVariants.{Failed, Whole, More}
+use Rattle.std.proofs.Common.{Result, Ok, Err}
 use Rattle.output.specs.declared.Said.{Said}
 use Rattle.output.specs.Says.{output, errors, Says}
 use Rattle.output.specs.Laws.{all_said}
 use Rattle.show.specs.Said.{unreadable, stream_of, text_of}
 use Rattle.show.proofs.answer.Goals as goal
 
-complains : (buffer old new : List ℕ) (input : Progress) (r : Said) → ((n : ℕ) → input ≡ Whole n → ⊥) → Says errors unreadable old new r
+complains : {E : Type 0} (buffer old new : List ℕ) (input : Result ℕ E) (r : Said) → ((n : ℕ) → input ≡ Ok n → ⊥) → Says errors unreadable old new r
     → Says (stream_of input) (text_of buffer input) old new r
 unfolding stream_of text_of
-complains buffer old new Failed r k s = s
-complains buffer old new (Whole n) r k s = absurd (k n refl)
-complains buffer old new (More n) r k s = s
+complains buffer old new (Err e) r k s = s
+complains buffer old new (Ok n) r k s = absurd (k n refl)
 
-whole : (buffer old new : List ℕ) (input : Progress) (n : ℕ) (r : Said) → input ≡ Whole n → Says output (shown_of (take n buffer)) old new r
+whole : {E : Type 0} (buffer old new : List ℕ) (input : Result ℕ E) (n : ℕ) (r : Said) → input ≡ Ok n → Says output (shown_of (take n buffer)) old new r
     → Says (stream_of input) (text_of buffer input) old new r
 unfolding stream_of text_of
-whole buffer old new input n r e s = subst (λ (p : Progress). Says (stream_of p) (text_of buffer p) old new r) (sym e) s
+whole {E} buffer old new input n r e s = subst (λ (p : Result ℕ E). Says (stream_of p) (text_of buffer p) old new r) (sym e) s
 
 -- how many bytes are shown, of either kind
 abbrev bytes_in : Shown → ℕ
@@ -50,10 +48,10 @@ shown book old new w p long n e = record {
 }
 
 pub returns-in_default : goal.returns-in_default
-returns-in_default c = complains _ _ _ _ _ c.in_default.not-Whole (all_said unreadable (omega (arith, c.requires.1)) c.complaint.ensures.said)
+returns-in_default c = complains _ _ _ _ _ c.in_default.not-Ok (all_said unreadable (omega (arith, c.requires.1)) c.complaint.ensures.said)
 
 pub returns-in-Table : goal.returns-in-Table
-returns-in-Table c = whole _ _ _ _ _ _ c.in-Whole.is (shown _ _ _ _ c.show.ensures.shown c.requires.1 _ (ap bytes_in c.in-Table.is))
+returns-in-Table c = whole _ _ _ _ _ _ c.in-Ok.is (shown _ _ _ _ c.show.ensures.shown c.requires.1 _ (ap bytes_in c.in-Table.is))
 
 pub returns-in-Bad : goal.returns-in-Bad
-returns-in-Bad c = whole _ _ _ _ _ _ c.in-Whole.is (shown _ _ _ _ c.show.ensures.shown c.requires.1 _ (ap bytes_in c.in-Bad.is))
+returns-in-Bad c = whole _ _ _ _ _ _ c.in-Ok.is (shown _ _ _ _ c.show.ensures.shown c.requires.1 _ (ap bytes_in c.in-Bad.is))
