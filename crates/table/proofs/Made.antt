@@ -1,6 +1,5 @@
 -- What is written is a book of the table, or nothing is written. Assumes nothing.
-use Rattle.std.specs.Prelude.{Result, Ok, Err}
-use Rattle.std.proofs.Common.{◌≡◌, ℕ, ◌+◌, ◌-◌, ◌<◌, ◌≤◌, List, ◌++◌, length, take, drop, sym, refl, ap, ◌∙◌, subst, arith, length-take}
+use Rattle.std.proofs.Common.{◌≡◌, ℕ, ◌+◌, ◌-◌, ◌<◌, ◌≤◌, List, ◌++◌, Result, Ok, Err, length, take, drop, sym, refl, ap, ◌∙◌, subst, arith, length-take}
 use native.Mathlib.Decide.{dec_lt}
 use lib.Seq.{sets-eq, take-append_seam, drop-append_seam}
 use Rattle.text.specs.Text.{Room, Appended}
@@ -16,8 +15,8 @@ use Rattle.table.specs.Making.{BookOf, IsMade, MakesOf}
 use Rattle.table.specs.declared.Shown.{Shown}
 use Rattle.table.specs.declared.Shown.TheVariants as shown
 use Rattle.table.specs.declared.Trouble.{Trouble}
-use Rattle.table.specs.declared.Making.{Making}
-use Rattle.table.specs.declared.Making.TheVariants.{Made, Wrong}
+use Rattle.table.specs.declared.NotMade.{NotMade}
+use Rattle.table.specs.declared.NotMade.TheVariants.{Wrong}
 use Rattle.book.specs.declared.FaultAt.{FaultAt}
 
 pub front : (n : ℕ) (l : List ℕ) → between 0 n l ≡ take n l
@@ -40,7 +39,7 @@ module _ (bytes old new : List ℕ) (n : ℕ) (a : Appended bytes old 0 new n) w
       let p = stands room in
       ap (λ (k : ℕ). take k new) p.0 ∙ ap (take (length bytes)) p.1 ∙ take-append_seam bytes (drop (length bytes) old)
 
-  pub made_makes : (text : List ℕ) → BookOf text bytes → length bytes ≤ length old → MakesOf text old new (Made n)
+  pub made_makes : (text : List ℕ) → BookOf text bytes → length bytes ≤ length old → MakesOf text old new (Ok n)
   made_makes text book h = record {
     made = λ k e.
         let same : n ≡ k = cc in
@@ -62,7 +61,7 @@ module _ (bytes old new : List ℕ) (n : ℕ) (a : Appended bytes old 0 new n) w
 
 -- ---- nothing was written
 
-pub wrong_makes : (text old : List ℕ) (r : Making) (t : Trouble) → r ≡ Wrong t → MakesOf text old old r
+pub wrong_makes : (text old : List ℕ) (r : Result ℕ NotMade) (t : Trouble) → r ≡ Err (Wrong t) → MakesOf text old old r
 wrong_makes text old r t e = record {
   made = λ n f. let z : ◌≡◌ {A = ℕ} 0 1 = cc in absurd (omega arith);
   wrong = λ t' f. refl;
@@ -70,7 +69,7 @@ wrong_makes text old r t e = record {
 }
 
 -- the same text by another name
-pub retold : {a b old new : List ℕ} {r : Making} → a ≡ b → MakesOf (tidy a) old new r → MakesOf (tidy b) old new r
+pub retold : {a b old new : List ℕ} {r : Result ℕ NotMade} → a ≡ b → MakesOf (tidy a) old new r → MakesOf (tidy b) old new r
 retold {old = old} {new = new} {r = r} e m = subst (λ (l : List ℕ). MakesOf (tidy l) old new r) e m
 
 -- ---- a book is shown as this text

@@ -1,5 +1,5 @@
 -- What is promised of making a book of a table. Nothing here is proved: these are definitions.
-use Rattle.std.specs.Prelude.{◌≡◌, ℕ, ◌<◌, ◌≤◌, ◌≢◌, List, length, take, drop, Ok}
+use Rattle.std.specs.Prelude.{◌≡◌, ℕ, ◌<◌, ◌≤◌, ◌≢◌, List, Result, Ok, Err, length, take, drop}
 use Rattle.book.specs.Reading.{read_of}
 use Rattle.book.specs.Parts.{contents_of}
 use Rattle.book.specs.declared.Starts.{Starts}
@@ -9,8 +9,8 @@ use Rattle.table.specs.Understood.{understood}
 use Rattle.table.specs.declared.What.{What}
 use Rattle.table.specs.declared.What.TheVariants.{TooLong}
 use Rattle.table.specs.declared.Trouble.{Trouble}
-use Rattle.table.specs.declared.Making.{Making}
-use Rattle.table.specs.declared.Making.TheVariants.{Made, Wrong, TooShort}
+use Rattle.table.specs.declared.NotMade.{NotMade}
+use Rattle.table.specs.declared.NotMade.TheVariants.{Wrong, TooShort}
 
 -- the book is a good one, and the text of its values is this one
 pub record BookOf (text book : List ℕ) : Type 0 where
@@ -29,18 +29,21 @@ abbrev pub enough : ℕ
 enough = 65537
 
 -- this is wrong with the whole table
-abbrev pub wholly : What → Making
-wholly what = Wrong (record { line = 0; column = 0; what = what })
+abbrev pub whole : What → Trouble
+whole what = record { line = 0; column = 0; what = what }
+
+abbrev pub wholly : What → Result ℕ NotMade
+wholly what = Err (Wrong (whole what))
 
 -- What may be replied where the buffer is long enough for any book, and the table is understood as this text: a book of it, or that something is
 -- wrong, and then the buffer is as it was.
-pub record MakesOf (text old new : List ℕ) (r : Making) : Type 0 where
-  pub made : (n : ℕ) → r ≡ Made n → IsMade text old new n
-  pub wrong : (t : Trouble) → r ≡ Wrong t → new ≡ old
-  pub long : r ≢ TooShort
+pub record MakesOf (text old new : List ℕ) (r : Result ℕ NotMade) : Type 0 where
+  pub made : (n : ℕ) → r ≡ Ok n → IsMade text old new n
+  pub wrong : (t : Trouble) → r ≡ Err (Wrong t) → new ≡ old
+  pub long : r ≢ Err TooShort
 
 -- A shorter buffer is answered as too short, and so is a table of more than 65,536 bytes as too long; nothing is written then.
-pub record Makes (text old new : List ℕ) (r : Making) : Type 0 where
-  pub short : length old < longest → (r ≡ TooShort) × (new ≡ old)
+pub record Makes (text old new : List ℕ) (r : Result ℕ NotMade) : Type 0 where
+  pub short : length old < longest → (r ≡ Err TooShort) × (new ≡ old)
   pub too_long : longest ≤ length old → enough ≤ length text → (r ≡ wholly TooLong) × (new ≡ old)
   pub makes : longest ≤ length old → MakesOf (understood text) old new r

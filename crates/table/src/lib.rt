@@ -11,12 +11,13 @@ mod policies;
 mod put;
 mod rows;
 
-ghost use Rattle.std.specs.Prelude.{◌≡◌, true, take};
+ghost use Rattle.std.specs.Prelude.{◌≡◌, true};
 ghost use Rattle.table.specs.Shown.{longest, Shows};
 ghost use Rattle.table.specs.Understood.{tidy};
-ghost use Rattle.table.specs.Making.{enough, wholly, BookOf, MakesOf, Makes};
+ghost use Rattle.table.specs.declared.NotMade.TheVariants.{Wrong};
+ghost use Rattle.table.specs.declared.What.TheVariants.{NotUnderstood};
+ghost use Rattle.table.specs.Making.{enough, whole, BookOf, MakesOf, Makes};
 
-use draft::Found;
 use put::put_table;
 use values::Values;
 
@@ -91,11 +92,9 @@ pub struct Trouble {
     pub what: What,
 }
 
-// What asking for a book comes to: how many bytes of the buffer it takes; what is wrong with the table; or that the buffer is shorter than a book
-// can be.
+// Why no book is made: what is wrong with the table, or that the buffer is shorter than a book can be.
 #[derive(Clone, Copy)]
-pub enum Making {
-    Made(usize),
+pub enum NotMade {
     Wrong(Trouble),
     TooShort,
 }
@@ -136,61 +135,42 @@ pub fn show(book: &[u8], out: &mut [u8]) -> Shown
     }
 }
 
-// Whether two texts are the same.
-fn same(a: &[u8], b: &[u8]) -> bool
-    ensures { result ≡ true → a.now ≡ b.now }
-{
-    if a.len() != b.len() {
-        return false;
-    }
-    let mut i = 0;
-    while i < a.len() {
-        if a[i] != b[i] {
-            return false;
+impl Trouble {
+    // This is wrong with the whole table.
+    fn whole(what: What) -> Trouble
+        ensures { result ≡ whole what }
+    {
+        Trouble {
+            line: 0,
+            column: 0,
+            what,
         }
-        i += 1;
     }
-    true
 }
 
-// This is wrong with the whole table.
-fn all_wrong(what: What) -> Making
-    ensures { result ≡ wholly what }
+impl From<Trouble> for NotMade {
+    ghost from_gives = { λ t r. r ≡ Wrong t };
+
+    fn from(trouble: Trouble) -> NotMade {
+        NotMade::Wrong(trouble)
+    }
+}
+
+// There is no book of the table, and no place of it tells why.
+fn not_understood() -> NotMade
+    ensures { result ≡ Wrong (whole NotUnderstood) }
 {
-    Making::Wrong(Trouble {
-        line: 0,
-        column: 0,
-        what: what,
-    })
+    NotMade::Wrong(Trouble::whole(What::NotUnderstood))
 }
 
-// Whether two texts begin with the same bytes, so many of them.
-fn same_front(a: &[u8], b: &[u8], length: usize) -> bool
-    ensures { result ≡ true → take length a.now ≡ take length b.now }
-{
-    if length > a.len() {
-        return false;
-    }
-    if length > b.len() {
-        return false;
-    }
-    same(fit::between(a, 0, length), fit::between(b, 0, length))
-}
-
-// Whether the book is a good one whose table is the text at the front of a buffer.
-fn is_shown(book: &[u8], text: &[u8], length: usize) -> bool
-    ensures { result ≡ true → BookOf (take length text.now) book.now }
+// Whether the book is a good one whose table is this text.
+fn is_shown(book: &[u8], text: &[u8]) -> bool
+    ensures { result ≡ true → BookOf text.now book.now }
 {
     let mut table = [0u8; LONGEST];
     match show(book, &mut table) {
-        Shown::Table(shown) => {
-            if shown != length {
-                return false;
-            }
-            same_front(&table, text, shown)
-        }
-        Shown::Bad(_) => false,
-        Shown::TooShort => false,
+        Shown::Table(length) => length <= table.len() && &table[..length] == text,
+        Shown::Bad(_) | Shown::TooShort => false,
     }
 }
 
@@ -201,73 +181,59 @@ fn is_told(book: &[u8], plain: &[u8]) -> bool
 {
     let mut text = [0u8; ROOM];
     let length = fit::put_tidy(plain, &mut text);
-    if length >= ROOM {
-        return false;
-    }
-    is_shown(book, &text, length)
+    length < ROOM && is_shown(book, &text[..length])
 }
 
 // The book, if it is one of the plain text.
-fn copied(book: &[u8], plain: &[u8], out: &mut [u8]) -> Making
+fn copied(book: &[u8], plain: &[u8], out: &mut [u8]) -> Result<usize, NotMade>
     ensures { MakesOf (tidy plain.now) out.old out.new result }
 {
-    if book.len() > out.len() {
-        return all_wrong(What::NotUnderstood);
+    if book.len() <= out.len() && is_told(book, plain) {
+        return Ok(text::word(out, 0, book));
     }
-    if is_told(book, plain) {
-        return Making::Made(text::word(out, 0, book));
-    }
-    all_wrong(What::NotUnderstood)
+    Err(not_understood())
 }
 
 // The book of these values, if it is one of the plain text.
-fn written(plain: &[u8], values: Values, out: &mut [u8]) -> Making
+fn written(plain: &[u8], values: Values, out: &mut [u8]) -> Result<usize, NotMade>
     ensures { MakesOf (tidy plain.now) out.old out.new result }
 {
     let mut book = [0u8; values::LONGEST];
     match values::write(values, &mut book) {
         Ok(length) => {
             if length > values::LONGEST {
-                return all_wrong(What::NotUnderstood);
+                return Err(not_understood());
             }
             copied(&book[0..length], plain, out)
         }
-        Err(_) => all_wrong(What::NotUnderstood),
+        Err(_) => Err(not_understood()),
     }
 }
 
-// The book of the plain text at the front of a buffer.
-fn made_of(buffer: &[u8], length: usize, out: &mut [u8]) -> Making
-    ensures { MakesOf (tidy (take length buffer.now)) out.old out.new result }
+// The book of a plain text at the front of a buffer.
+fn made_of(plain: &[u8], out: &mut [u8]) -> Result<usize, NotMade>
+    ensures { MakesOf (tidy plain.now) out.old out.new result }
 {
-    if length > buffer.len() {
-        return all_wrong(What::NotUnderstood);
-    }
-    let plain = fit::between(buffer, 0, length);
-    let draft = parse::parse(plain);
-    let found = draft.found;
-    match found {
-        Found::Wrong(trouble) => Making::Wrong(trouble),
-        Found::Nothing => written(plain, draft.said(), out),
-    }
+    let values = parse::parse(plain)?;
+    written(plain, values, out)
 }
 
 // The book of a table at the front of a buffer that is long enough for any.
-pub fn make(text: &[u8], out: &mut [u8]) -> Making
+pub fn make(text: &[u8], out: &mut [u8]) -> Result<usize, NotMade>
     ensures made { Makes text.now out.old out.new result }
     ensures kept { text.exit.now ≡ text.entry.now }
     ensures limit { ENOUGH ≡ enough }
 {
     if out.len() < values::LONGEST {
-        return Making::TooShort;
+        return Err(NotMade::TooShort);
     }
     if text.len() >= ENOUGH {
-        return all_wrong(What::TooLong);
+        return Err(NotMade::Wrong(Trouble::whole(What::TooLong)));
     }
     let mut plain = [0u8; ENOUGH];
     let length = plain::put_plain(text, &mut plain);
     if length >= ENOUGH {
-        return all_wrong(What::NotUnderstood);
+        return Err(not_understood());
     }
-    made_of(&plain, length, out)
+    made_of(&plain[..length], out)
 }

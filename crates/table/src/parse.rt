@@ -1,190 +1,152 @@
 // The values that a plain text says, or the first thing that is wrong with it. Nothing is promised of them but that reading ends: what is made of
 // them is compared with the text. All the same, what is told here is what planners read.
-use crate::What;
-use crate::draft::{Draft, END, POLICIES_HEAD, POLICY_LINES, ROWS, ROWS_HEAD, next, unasked};
-use crate::fit::{is_blank, is_over, piece};
-use crate::policies::{policy_cell, policy_ended, policy_heading, policy_heading_ended};
-use crate::rows::{row_cell, row_ended, row_heading, row_heading_ended};
+use crate::draft::{Draft, Line, Part};
+use crate::fit::{between, is_blank, is_over, piece};
+use crate::policies::{end_policy, end_policy_heading, read_policy_cell, read_policy_heading};
+use crate::rows::{end_row, end_row_heading, read_row_cell, read_row_heading};
+use crate::{Trouble, What};
 use book::POLICIES;
 use roster::Policy;
+use values::Values;
 
 // A cell that counts, in whichever part.
-fn kept_cell(draft: Draft, column: usize, cell: &[u8]) -> Draft {
-    let part = draft.part;
-    if part == ROWS_HEAD {
-        return row_heading(draft, column, cell);
+fn read_kept(draft: &mut Draft, column: usize, cell: &[u8]) -> Result<(), Trouble> {
+    match draft.part {
+        Part::RowsHead => read_row_heading(draft, column, cell),
+        Part::Rows => read_row_cell(draft, column, cell),
+        Part::PoliciesHead => read_policy_heading(draft, column, cell),
+        Part::Policies | Part::End => read_policy_cell(draft, column, cell),
     }
-    if part == ROWS {
-        return row_cell(draft, column, cell);
-    }
-    if part == POLICIES_HEAD {
-        return policy_heading(draft, column, cell);
-    }
-    policy_cell(draft, column, cell)
 }
 
-// A cell under its heading. Past the last column of the heading there is none.
-fn with_cell(draft: Draft, column: usize, heading: &[u8], cell: &[u8], is_past: bool) -> Draft {
-    if heading.len() == 0 {
-        if cell.len() == 0 {
-            return draft;
-        }
-        if is_past {
-            return draft.wrong(column, What::TooManyCells);
-        }
-        return draft.wrong(column, What::NoHeading);
+// A cell without a heading, which has to be empty. Past the last column of the heading there is none.
+fn read_headless(draft: &Draft, column: usize, cell: &[u8], is_past: bool) -> Result<(), Trouble> {
+    if cell.is_empty() {
+        Ok(())
+    } else if is_past {
+        Err(draft.wrong(column, What::TooManyCells))
+    } else {
+        Err(draft.wrong(column, What::NoHeading))
     }
-    if heading[0] == b'#' {
-        return draft;
-    }
-    let mut after = kept_cell(draft, column, cell);
-    after.cells = next(after.cells);
-    after
 }
 
-// The bytes from one place up to another; none where there is no such part.
-fn part(text: &[u8], from: usize, to: usize) -> &[u8] {
-    if to <= text.len() {
-        if from <= to {
-            return &text[from..to];
+// A cell under its heading.
+fn read_cell(
+    draft: &mut Draft,
+    column: usize,
+    heading: &[u8],
+    cell: &[u8],
+    is_past: bool,
+) -> Result<(), Trouble> {
+    match heading {
+        [] => read_headless(draft, column, cell, is_past),
+        [b'#', ..] => Ok(()),
+        _ => {
+            read_kept(draft, column, cell)?;
+            draft.line.cells = draft.line.cells.saturating_add(1);
+            Ok(())
         }
     }
-    &text[0..0]
 }
 
 // All cells of a line under those of its heading.
-fn with_cells(draft: Draft, heading: &[u8], line: &[u8]) -> Draft {
-    let mut after = draft;
-    let mut column = 0;
+fn read_cells(draft: &mut Draft, heading: &[u8], line: &[u8]) -> Result<(), Trouble> {
+    let mut column: usize = 0;
     let mut h = 0;
     let mut c = 0;
-    loop {
-        if is_over(heading, h, line, c) {
-            return after;
-        }
+    while !is_over(heading, h, line, c) {
         let above = piece(heading, h, b',');
         let under = piece(line, c, b',');
-        let above_end = above.end;
-        let under_end = under.end;
-        column = next(column);
-        after = with_cell(
-            after,
+        column = column.saturating_add(1);
+        read_cell(
+            draft,
             column,
-            part(heading, h, above_end),
-            part(line, c, under_end),
+            between(heading, h, above.end),
+            between(line, c, under.end),
             h >= heading.len(),
-        );
+        )?;
         h = above.next;
         c = under.next;
     }
+    Ok(())
 }
 
 // Before the cells of a line: whether there may be such a line.
-fn line_begun(draft: Draft) -> Draft {
-    let mut after = draft;
-    after.cells = 0;
-    after.listed = 0;
-    let policy = unasked();
-    after.policy = policy;
-    after.marks = 0;
-    after.weight = 1;
-    let part = draft.part;
-    if part == ROWS {
-        if draft.row_count >= Policy::ROWS {
-            return after.wrong(0, What::TooManyRows);
+fn begin_line(draft: &Draft) -> Result<(), Trouble> {
+    match draft.part {
+        Part::Rows if draft.values.row_count >= Policy::ROWS => {
+            Err(draft.wrong(0, What::TooManyRows))
         }
-    }
-    if part == POLICY_LINES {
-        if draft.policy_count >= POLICIES {
-            return after.wrong(0, What::TooManyPolicies);
+        Part::Policies if draft.values.policy_count >= POLICIES => {
+            Err(draft.wrong(0, What::TooManyPolicies))
         }
+        Part::End => Err(draft.wrong(0, What::ThirdHeading)),
+        _ => Ok(()),
     }
-    if part == END {
-        return after.wrong(0, What::ThirdHeading);
-    }
-    after
 }
 
 // After the cells of a line.
-fn line_ended(draft: Draft) -> Draft {
-    let part = draft.part;
-    if part == ROWS_HEAD {
-        return row_heading_ended(draft);
+fn end_line(draft: &mut Draft) -> Result<(), Trouble> {
+    match draft.part {
+        Part::RowsHead => end_row_heading(draft),
+        Part::Rows => {
+            end_row(draft);
+            Ok(())
+        }
+        Part::PoliciesHead => end_policy_heading(draft),
+        Part::Policies | Part::End => end_policy(draft),
     }
-    if part == ROWS {
-        return row_ended(draft);
-    }
-    if part == POLICIES_HEAD {
-        return policy_heading_ended(draft);
-    }
-    policy_ended(draft)
 }
 
 // A blank line.
-fn blank_line(draft: Draft) -> Draft {
-    let mut after = draft;
-    let part = draft.part;
-    if part == ROWS {
-        after.part = POLICIES_HEAD;
+fn end_part(draft: &mut Draft) {
+    match draft.part {
+        Part::Rows => draft.part = Part::PoliciesHead,
+        Part::Policies => draft.part = Part::End,
+        _ => {}
     }
-    if part == POLICY_LINES {
-        after.part = END;
-    }
-    after
-}
-
-// A line with its heading.
-fn full_line(draft: Draft, heading: &[u8], line: &[u8]) -> Draft {
-    line_ended(with_cells(line_begun(draft), heading, line))
 }
 
 // Whether the next line that is not blank is a heading.
-fn awaits_heading(draft: Draft) -> bool {
-    let part = draft.part;
-    part == ROWS_HEAD || part == POLICIES_HEAD || part == END
+fn awaits_heading(draft: &Draft) -> bool {
+    matches!(draft.part, Part::RowsHead | Part::PoliciesHead | Part::End)
 }
 
-// A line more. Where a heading is waited for the line is one, and its own.
-fn with_line(draft: Draft, heading: &[u8], line: &[u8]) -> Draft {
-    let mut after = draft;
-    after.line = next(draft.line);
+// A line more, under its heading.
+fn read_line(draft: &mut Draft, heading: &[u8], line: &[u8]) -> Result<(), Trouble> {
+    draft.line = Line::numbered(draft.line.number.saturating_add(1));
     if is_blank(line) {
-        return blank_line(after);
+        end_part(draft);
+        return Ok(());
     }
-    if awaits_heading(after) {
-        return full_line(after, line, line);
-    }
-    full_line(after, heading, line)
+    begin_line(draft)?;
+    read_cells(draft, heading, line)?;
+    end_line(draft)
 }
 
 // At the end of the text: both headings must have come.
-fn ended(draft: Draft) -> Draft {
-    let part = draft.part;
-    if part == ROWS_HEAD {
-        return draft.all_wrong(What::NoTable);
+fn end(draft: &Draft) -> Result<(), Trouble> {
+    match draft.part {
+        Part::RowsHead => Err(Trouble::whole(What::NoTable)),
+        Part::Rows | Part::PoliciesHead => Err(Trouble::whole(What::NoPolicies)),
+        Part::Policies | Part::End => Ok(()),
     }
-    if part == ROWS || part == POLICIES_HEAD {
-        return draft.all_wrong(What::NoPolicies);
-    }
-    draft
 }
 
-// What a plain text says.
-pub(crate) fn parse(text: &[u8]) -> Draft {
+// What a plain text says. Where a heading is waited for the line is one, and its own.
+pub(crate) fn parse(text: &[u8]) -> Result<Values, Trouble> {
     let mut draft = Draft::none();
-    let mut from = 0;
-    let mut to = 0;
+    let mut heading: &[u8] = &[];
     let mut i = 0;
     while i < text.len() {
-        let line = piece(text, i, b'\n');
-        let end = line.end;
-        let is_heading = awaits_heading(draft);
-        draft = with_line(draft, part(text, from, to), part(text, i, end));
-        if is_heading {
-            from = i;
-            to = end;
+        let found = piece(text, i, b'\n');
+        let line = between(text, i, found.end);
+        if awaits_heading(&draft) {
+            heading = line;
         }
-        i = line.next;
+        read_line(&mut draft, heading, line)?;
+        i = found.next;
     }
-    ended(draft)
+    end(&draft)?;
+    Ok(draft.values)
 }

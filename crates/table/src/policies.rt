@@ -1,158 +1,108 @@
 // The policies of a table and their heading.
-use crate::cells::{Number, number_in, with_mark};
-use crate::draft::{Draft, POLICY_LINES, next};
+use crate::cells::{code_of, number_in, read_mark};
+use crate::draft::{Draft, Part};
 use crate::rows::has_code;
-use crate::{What, same};
-use book::{PERMISSIONS, POLICIES};
+use crate::{Trouble, What};
+use book::{Form, POLICIES};
 use roster::Policy;
 
-// A word that must stand here.
-fn word_cell(draft: Draft, column: usize, is_there: bool, what: What) -> Draft {
-    if is_there {
-        return draft;
-    }
-    draft.wrong(column, what)
-}
-
 // The permissions are those of the rows' heading, in the same order.
-fn listed_again(draft: Draft, column: usize, code: u16) -> Draft {
-    let codes = draft.codes;
-    let count = draft.code_count;
-    let at = draft.listed;
-    let mut after = draft;
-    after.listed = next(at);
-    if at < count {
-        if at < PERMISSIONS {
-            if codes[at] == code {
-                return after;
-            }
-        }
+fn read_code_again(draft: &mut Draft, column: usize, cell: &[u8]) -> Result<(), Trouble> {
+    let Some(code) = code_of(cell) else {
+        return Err(draft.wrong(column, What::NoCode));
+    };
+    let at = draft.line.listed;
+    draft.line.listed = at.saturating_add(1);
+    if at < draft.values.code_count && draft.values.codes.get(at) == Some(&code) {
+        return Ok(());
     }
-    if has_code(codes, count, code) {
-        return after.wrong(column, What::PermissionOrder);
+    if has_code(&draft.values, code) {
+        return Err(draft.wrong(column, What::PermissionOrder));
     }
-    after.wrong(column, What::OtherPermission)
+    Err(draft.wrong(column, What::OtherPermission))
 }
 
 // The edition's column may stand before the permissions, beside person numbers.
-fn edition_heading(draft: Draft, column: usize) -> Draft {
-    let mut after = draft;
-    if draft.has_persons {
-        after.has_editions = true;
-        return after;
+fn read_edition_heading(draft: &mut Draft, column: usize) -> Result<(), Trouble> {
+    if let Form::Old = draft.values.form {
+        return Err(draft.wrong(column, What::EditionAlone));
     }
-    after.wrong(column, What::EditionAlone)
+    draft.values.form = Form::Editions;
+    Ok(())
 }
 
-pub(crate) fn policy_heading(draft: Draft, column: usize, cell: &[u8]) -> Draft {
-    let cells = draft.cells;
-    if cells == 0 {
-        return word_cell(draft, column, same(cell, b"s"), What::NoAway);
+pub(crate) fn read_policy_heading(
+    draft: &mut Draft,
+    column: usize,
+    cell: &[u8],
+) -> Result<(), Trouble> {
+    match (draft.line.cells, cell) {
+        (0, b"s") | (1, b"d") | (2, b"t") => Ok(()),
+        (0, _) => Err(draft.wrong(column, What::NoAway)),
+        (1, _) => Err(draft.wrong(column, What::NoCrews)),
+        (2, _) => Err(draft.wrong(column, What::NoSize)),
+        (3, b"edition") => read_edition_heading(draft, column),
+        _ => read_code_again(draft, column, cell),
     }
-    if cells == 1 {
-        return word_cell(draft, column, same(cell, b"d"), What::NoCrews);
-    }
-    if cells == 2 {
-        return word_cell(draft, column, same(cell, b"t"), What::NoSize);
-    }
-    if cells == 3 {
-        if same(cell, b"edition") {
-            return edition_heading(draft, column);
+}
+
+// A number from the first to the last; anything else is wrong in this way.
+fn number_cell(
+    draft: &Draft,
+    column: usize,
+    cell: &[u8],
+    first: u32,
+    last: u32,
+    what: What,
+) -> Result<u32, Trouble> {
+    number_in(cell, first, last).ok_or(draft.wrong(column, what))
+}
+
+pub(crate) fn read_policy_cell(
+    draft: &mut Draft,
+    column: usize,
+    cell: &[u8],
+) -> Result<(), Trouble> {
+    match (draft.line.cells, draft.values.form) {
+        (0, _) => draft.line.policy.away = number_cell(draft, column, cell, 0, 64, What::Away)?,
+        (1, _) => {
+            draft.line.policy.crews =
+                number_cell(draft, column, cell, 1, 8, What::Crews)? as usize;
         }
-    }
-    match number_in(cell, 0, 65535) {
-        Number::Is(code) => listed_again(draft, column, (code % 65536) as u16),
-        Number::Not => draft.wrong(column, What::NoCode),
-    }
-}
-
-// One of the numbers of a policy, by its column: s, d, t, the edition.
-fn policy_with(policy: Policy, which: usize, n: u32) -> Policy {
-    let mut after = policy;
-    if which == 0 {
-        after.away = n;
-        return after;
-    }
-    if which == 1 {
-        after.crews = n as usize;
-        return after;
-    }
-    if which == 2 {
-        after.size = n;
-        return after;
-    }
-    after.edition = n;
-    after
-}
-
-fn number_cell(draft: Draft, column: usize, number: Number, what: What) -> Draft {
-    match number {
-        Number::Is(n) => {
-            let before = draft.policy;
-            let policy = policy_with(before, draft.cells, n);
-            let mut after = draft;
-            after.policy = policy;
-            after
+        (2, _) => draft.line.policy.size = number_cell(draft, column, cell, 1, 64, What::Size)?,
+        (3, Form::Editions) => {
+            draft.line.policy.edition = number_cell(draft, column, cell, 1, 2, What::Edition)?;
         }
-        Number::Not => draft.wrong(column, what),
+        _ => return read_mark(draft, column, cell),
     }
+    Ok(())
 }
 
-pub(crate) fn policy_cell(draft: Draft, column: usize, cell: &[u8]) -> Draft {
-    let cells = draft.cells;
-    if cells == 0 {
-        return number_cell(draft, column, number_in(cell, 0, 64), What::Away);
+pub(crate) fn end_policy_heading(draft: &mut Draft) -> Result<(), Trouble> {
+    match draft.line.cells {
+        0 => return Err(draft.wrong(0, What::NoAway)),
+        1 => return Err(draft.wrong(0, What::NoCrews)),
+        2 => return Err(draft.wrong(0, What::NoSize)),
+        _ => {}
     }
-    if cells == 1 {
-        return number_cell(draft, column, number_in(cell, 1, 8), What::Crews);
+    if draft.line.listed < draft.values.code_count {
+        return Err(draft.wrong(0, What::PermissionMissing));
     }
-    if cells == 2 {
-        return number_cell(draft, column, number_in(cell, 1, 64), What::Size);
-    }
-    if cells == 3 {
-        if draft.has_editions {
-            return number_cell(draft, column, number_in(cell, 1, 2), What::Edition);
-        }
-    }
-    with_mark(draft, column, cell)
+    draft.part = Part::Policies;
+    Ok(())
 }
 
-pub(crate) fn policy_heading_ended(draft: Draft) -> Draft {
-    let cells = draft.cells;
-    if cells == 0 {
-        return draft.wrong(0, What::NoAway);
+pub(crate) fn end_policy(draft: &mut Draft) -> Result<(), Trouble> {
+    if draft.line.marks == 0 {
+        return Err(draft.wrong(0, What::NothingAsked));
     }
-    if cells == 1 {
-        return draft.wrong(0, What::NoCrews);
-    }
-    if cells == 2 {
-        return draft.wrong(0, What::NoSize);
-    }
-    if draft.listed < draft.code_count {
-        return draft.wrong(0, What::PermissionMissing);
-    }
-    let mut after = draft;
-    after.part = POLICY_LINES;
-    after
-}
-
-pub(crate) fn policy_ended(draft: Draft) -> Draft {
-    if draft.marks == 0 {
-        return draft.wrong(0, What::NothingAsked);
-    }
-    let mut after = draft;
-    let count = draft.policy_count;
-    let policy = draft.policy;
+    let count = draft.values.policy_count;
     if count < POLICIES {
-        let asked = Policy {
-            task: draft.marks,
-            away: policy.away,
-            crews: policy.crews,
-            size: policy.size,
-            edition: policy.edition,
+        draft.values.policies[count] = Policy {
+            task: draft.line.marks,
+            ..draft.line.policy
         };
-        after.policies[count] = asked;
-        after.policy_count = count + 1;
+        draft.values.policy_count = count + 1;
     }
-    after
+    Ok(())
 }

@@ -1,158 +1,131 @@
 // The rows of a table and their heading: staff numbers, person numbers, and what is held.
-use crate::cells::{Number, number_in, number_of, with_mark};
-use crate::draft::{Draft, ROWS};
-use crate::{What, same};
-use book::{PERMISSIONS, Row};
+use crate::cells::{code_of, number_of, read_mark};
+use crate::draft::{Draft, Part};
+use crate::{Trouble, What};
+use book::{Form, PERMISSIONS, Row};
 use roster::Policy;
+use values::Values;
 
 // Whether the code is listed.
-pub(crate) fn has_code(codes: [u16; PERMISSIONS], count: usize, code: u16) -> bool {
-    let mut found = false;
-    for i in 0..PERMISSIONS {
-        if i < count && codes[i] == code {
-            found = true;
-        }
+pub(crate) fn has_code(values: &Values, code: u16) -> bool {
+    values.codes.iter().take(values.code_count).any(|listed| *listed == code)
+}
+
+// The code before the next; 0 for the first.
+fn last_code(values: &Values) -> u16 {
+    match values.code_count.checked_sub(1) {
+        Some(last) => values.codes.get(last).copied().unwrap_or(0),
+        None => 0,
     }
-    found
 }
 
 // A code more.
-fn with_code(draft: Draft, column: usize, code: u16) -> Draft {
-    let codes = draft.codes;
-    let count = draft.code_count;
-    if has_code(codes, count, code) {
-        return draft.wrong(column, What::CodeTwice);
+fn read_code(draft: &mut Draft, column: usize, cell: &[u8]) -> Result<(), Trouble> {
+    let Some(code) = code_of(cell) else {
+        return Err(draft.wrong(column, What::NoCode));
+    };
+    let count = draft.values.code_count;
+    if has_code(&draft.values, code) {
+        return Err(draft.wrong(column, What::CodeTwice));
     }
     if count >= PERMISSIONS {
-        return draft.wrong(column, What::TooManyPermissions);
+        return Err(draft.wrong(column, What::TooManyPermissions));
     }
-    if 0 < count {
-        if code < codes[count - 1] {
-            return draft.wrong(column, What::CodeOrder);
-        }
+    if code < last_code(&draft.values) {
+        return Err(draft.wrong(column, What::CodeOrder));
     }
-    let mut after = draft;
-    after.codes[count] = code;
-    after.code_count = count + 1;
-    after
+    draft.values.codes[count] = code;
+    draft.values.code_count = count + 1;
+    Ok(())
 }
 
-pub(crate) fn row_heading(draft: Draft, column: usize, cell: &[u8]) -> Draft {
-    let mut after = draft;
-    if draft.cells == 0 {
-        if same(cell, b"staff") {
-            return after;
+pub(crate) fn read_row_heading(
+    draft: &mut Draft,
+    column: usize,
+    cell: &[u8],
+) -> Result<(), Trouble> {
+    match (draft.line.cells, cell) {
+        (0, b"staff") => Ok(()),
+        (0, _) => Err(draft.wrong(column, What::NoStaff)),
+        (1, b"person") => {
+            draft.values.form = Form::Persons;
+            Ok(())
         }
-        return after.wrong(column, What::NoStaff);
-    }
-    if draft.cells == 1 {
-        if same(cell, b"person") {
-            after.has_persons = true;
-            return after;
-        }
-    }
-    match number_in(cell, 0, 65535) {
-        Number::Is(code) => with_code(after, column, (code % 65536) as u16),
-        Number::Not => after.wrong(column, What::NoCode),
+        _ => read_code(draft, column, cell),
     }
 }
 
 // Whether a row has this staff number.
-fn has_staff(rows: [Row; Policy::ROWS], count: usize, staff: u32) -> bool {
-    let mut found = false;
-    for i in 0..Policy::ROWS {
-        if i < count && rows[i].staff == staff {
-            found = true;
-        }
-    }
-    found
+fn has_staff(values: &Values, staff: u32) -> bool {
+    values.rows.iter().take(values.row_count).any(|row| row.staff == staff)
 }
 
 // The staff number of the row before; 0 for the first row.
-fn last_staff(draft: Draft) -> u32 {
-    let count = draft.row_count;
-    if 0 < count {
-        if count <= Policy::ROWS {
-            let row = draft.rows[count - 1];
-            return row.staff;
-        }
+fn last_staff(values: &Values) -> u32 {
+    match values.row_count.checked_sub(1) {
+        Some(last) => values.rows.get(last).map_or(0, |row| row.staff),
+        None => 0,
     }
-    0
 }
 
 // What is wrong where no staff number stands. Where the policies begin it is the empty line before them that is missing.
 fn no_staff(cell: &[u8]) -> What {
-    if same(cell, b"s") {
-        return What::NoGap;
-    }
-    What::Staff
-}
-
-fn with_staff(draft: Draft, column: usize, cell: &[u8]) -> Draft {
-    match number_of(cell) {
-        Number::Is(staff) => {
-            let rows = draft.rows;
-            if has_staff(rows, draft.row_count, staff) {
-                return draft.wrong(column, What::StaffTwice);
-            }
-            if staff < last_staff(draft) {
-                return draft.wrong(column, What::StaffOrder);
-            }
-            let mut after = draft;
-            after.staff = staff;
-            after.person = staff;
-            after
-        }
-        Number::Not => draft.wrong(column, no_staff(cell)),
+    match cell {
+        [b's'] => What::NoGap,
+        _ => What::Staff,
     }
 }
 
-fn with_person(draft: Draft, column: usize, cell: &[u8]) -> Draft {
-    match number_of(cell) {
-        Number::Is(person) => {
-            let mut after = draft;
-            after.person = person;
-            after
-        }
-        Number::Not => draft.wrong(column, What::Person),
+fn read_staff(draft: &mut Draft, column: usize, cell: &[u8]) -> Result<(), Trouble> {
+    let Some(staff) = number_of(cell) else {
+        return Err(draft.wrong(column, no_staff(cell)));
+    };
+    if has_staff(&draft.values, staff) {
+        return Err(draft.wrong(column, What::StaffTwice));
+    }
+    if staff < last_staff(&draft.values) {
+        return Err(draft.wrong(column, What::StaffOrder));
+    }
+    draft.line.staff = staff;
+    draft.line.person = staff;
+    Ok(())
+}
+
+fn read_person(draft: &mut Draft, column: usize, cell: &[u8]) -> Result<(), Trouble> {
+    let Some(person) = number_of(cell) else {
+        return Err(draft.wrong(column, What::Person));
+    };
+    draft.line.person = person;
+    Ok(())
+}
+
+pub(crate) fn read_row_cell(draft: &mut Draft, column: usize, cell: &[u8]) -> Result<(), Trouble> {
+    match (draft.line.cells, draft.values.form) {
+        (0, _) => read_staff(draft, column, cell),
+        (1, Form::Persons | Form::Editions) => read_person(draft, column, cell),
+        _ => read_mark(draft, column, cell),
     }
 }
 
-pub(crate) fn row_cell(draft: Draft, column: usize, cell: &[u8]) -> Draft {
-    if draft.cells == 0 {
-        return with_staff(draft, column, cell);
+pub(crate) fn end_row_heading(draft: &mut Draft) -> Result<(), Trouble> {
+    if draft.line.cells == 0 {
+        return Err(draft.wrong(0, What::NoStaff));
     }
-    if draft.cells == 1 {
-        if draft.has_persons {
-            return with_person(draft, column, cell);
-        }
+    if draft.values.code_count == 0 {
+        return Err(draft.wrong(0, What::NoPermission));
     }
-    with_mark(draft, column, cell)
+    draft.part = Part::Rows;
+    Ok(())
 }
 
-pub(crate) fn row_heading_ended(draft: Draft) -> Draft {
-    if draft.cells == 0 {
-        return draft.wrong(0, What::NoStaff);
-    }
-    if draft.code_count == 0 {
-        return draft.wrong(0, What::NoPermission);
-    }
-    let mut after = draft;
-    after.part = ROWS;
-    after
-}
-
-pub(crate) fn row_ended(draft: Draft) -> Draft {
-    let mut after = draft;
-    let count = draft.row_count;
+pub(crate) fn end_row(draft: &mut Draft) {
+    let count = draft.values.row_count;
     if count < Policy::ROWS {
-        let row = Row {
-            staff: draft.staff,
-            person: draft.person,
-            holdings: draft.marks,
+        draft.values.rows[count] = Row {
+            staff: draft.line.staff,
+            person: draft.line.person,
+            holdings: draft.line.marks,
         };
-        after.rows[count] = row;
-        after.row_count = count + 1;
+        draft.values.row_count = count + 1;
     }
-    after
 }

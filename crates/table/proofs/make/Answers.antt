@@ -1,5 +1,5 @@
 -- The plain text stands whole in its buffer, and what is made of it is the reply. Assumes nothing.
-use Rattle.std.proofs.Common.{◌<◌, ◌≤◌, length, refl, arith}
+use Rattle.std.proofs.Common.{◌<◌, ◌≤◌, length, arith}
 use Rattle.values.specs.Writing.{longest}
 use Rattle.table.specs.Understood.{understood}
 use Rattle.table.specs.Making.{enough}
@@ -14,6 +14,10 @@ not_short c h = omega (arith, c.if-out-lt-LONGEST.false)
 not_long : (c : Else-text-ge-ENOUGH) → enough ≤ length c.args.text.now → ⊥
 not_long c h = omega (arith, c.if-text-ge-ENOUGH.false)
 
-pub returns : goal.returns
+pub returns-clause-made : goal.returns-clause-made
 unfolding understood
-returns c = record { made = record { short = λ h. absurd (not_short (goal.at.returns c).Else-out-lt-LONGEST h); too_long = λ h k. absurd (not_long (goal.at.returns c).Else-text-ge-ENOUGH k); makes = λ h. retold (all_fit _ _ _ _ c.put_plain-length.ensures.put 65537 c.plain-2-1.given c.if-length-ge-ENOUGH.false) c.made_of.ensures }; kept = refl; limit = refl }
+returns-clause-made c = record {
+  short = λ h. absurd (not_short (goal.at.returns-clause-made c).Else-out-lt-LONGEST h);
+  too_long = λ h k. absurd (not_long (goal.at.returns-clause-made c).Else-text-ge-ENOUGH k);
+  makes = λ h. retold (all_fit _ _ _ _ c.put_plain-length.ensures.put 65537 c.plain-2-1.given c.if-length-ge-ENOUGH.false) c.made_of.ensures;
+}

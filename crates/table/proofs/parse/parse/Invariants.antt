@@ -1,4 +1,4 @@
--- The loop ends: a turn for each that is left.
+-- The loop ends: a turn for each line that is left.
 use Rattle.std.proofs.Common.{◌-◌, ◌≤◌, length}
 use Rattle.table.proofs.parse.parse.Given as goal
 

@@ -1,9 +1,0 @@
--- The loop ends: a turn for each that is left.
-use Rattle.std.proofs.Common.{◌-◌, ◌≤◌, length}
-use Rattle.table.proofs.cells.number_of.Given as goal
-
-abbrev pub invariant-loop-i : goal.invariant-loop-i
-invariant-loop-i l = l.i ≤ length l.cell
-
-abbrev pub decreases-loop-i : goal.decreases-loop-i
-decreases-loop-i l = length l.cell - l.i
