@@ -1,5 +1,5 @@
 // The lines of a plain text fitted to their headings. specs/Understood says as what they are written, specs/Inner/Fitting what each function answers.
-ghost use Rattle.std.specs.Prelude.{◌≡◌, ◌+◌, ◌-◌, ◌≤◌, ◌||◌, [], ◌∷◌, ◌++◌, length};
+ghost use Rattle.std.specs.Prelude.{◌≡◌, ◌+◌, ◌-◌, ◌≤◌, [], ◌∷◌, ◌++◌, length};
 ghost use Rattle.text.specs.Text.{newline, Appended};
 ghost use Rattle.text.specs.Cut.{ended};
 ghost use Rattle.table.specs.Understood.{blank, under, fitted, tidy};
@@ -12,19 +12,17 @@ pub(crate) fn piece(text: &[u8], at: usize, mark: u8) -> Piece
     requires { at ≤ length text.now }
     ensures { IsPiece text.now at mark result }
 {
-    let mut end = at;
-    while end < text.len() {
+    for end in at..text.len() {
         if text[end] == mark {
             return Piece {
-                end: end,
+                end,
                 next: end + 1,
             };
         }
-        end += 1;
     }
     Piece {
-        end: end,
-        next: end,
+        end: text.len(),
+        next: text.len(),
     }
 }
 
@@ -40,43 +38,26 @@ pub(crate) fn between(text: &[u8], from: usize, to: usize) -> &[u8]
 pub(crate) fn is_over(heading: &[u8], h: usize, line: &[u8], c: usize) -> bool
     ensures { IsOver result ((length heading.now - h) + (length line.now - c)) }
 {
-    if h < heading.len() {
-        return false;
-    }
-    if c < line.len() {
-        return false;
-    }
-    true
+    heading.len() <= h && line.len() <= c
 }
 
 // Whether a line has nothing but empty cells.
 pub(crate) fn is_blank(line: &[u8]) -> bool
     ensures { result ≡ blank line.now }
 {
-    let mut i = 0;
-    while i < line.len() {
-        if line[i] != b',' {
-            return false;
-        }
-        i += 1;
-    }
-    true
+    line.iter().all(|byte| *byte == b',')
 }
 
 // Whether a cell stays under its heading.
+#[tactic(auto, unfolding(crate::specs::Understood::under))]
 fn stays(heading: &[u8], cell: &[u8]) -> bool
     ensures { under heading.now cell.now ≡ kept_if result cell.now }
 {
-    if heading.len() == 0 {
-        if cell.len() == 0 {
-            return false;
-        }
-        return true;
+    match heading {
+        [] => !cell.is_empty(),
+        [b'#', ..] => false,
+        _ => true,
     }
-    if heading[0] == b'#' {
-        return false;
-    }
-    true
 }
 
 // A cell, if it stays, behind a comma where cells stand before it.
@@ -91,16 +72,6 @@ fn put_cell(out: &mut [u8], at: usize, begun: bool, stays: bool, cell: &[u8]) ->
         return text::word(out, next, cell);
     }
     text::word(out, at, cell)
-}
-
-// Whether one of the two is so.
-fn either(a: bool, b: bool) -> bool
-    ensures { result ≡ (a || b) }
-{
-    if a {
-        return true;
-    }
-    b
 }
 
 // The end of a line; a dash where no cell stands in it.
@@ -121,21 +92,17 @@ fn put_fitted(heading: &[u8], line: &[u8], out: &mut [u8], at: usize) -> usize
     let mut begun = false;
     let mut h = 0;
     let mut c = 0;
-    loop {
-        if is_over(heading, h, line, c) {
-            return put_end(out, next, begun);
-        }
+    while !is_over(heading, h, line, c) {
         let above = piece(heading, h, b',');
         let under = piece(line, c, b',');
-        let above_end = above.end;
-        let under_end = under.end;
-        let cell = between(line, c, under_end);
-        let kept = stays(between(heading, h, above_end), cell);
+        let cell = between(line, c, under.end);
+        let kept = stays(between(heading, h, above.end), cell);
         next = put_cell(out, next, begun, kept, cell);
-        begun = either(begun, kept);
+        begun |= kept;
         h = above.next;
         c = under.next;
     }
+    put_end(out, next, begun)
 }
 
 // The empty line before a heading, unless it is the first.

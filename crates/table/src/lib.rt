@@ -169,7 +169,7 @@ fn is_shown(book: &[u8], text: &[u8]) -> bool
 {
     let mut table = [0u8; LONGEST];
     match show(book, &mut table) {
-        Shown::Table(length) => length <= table.len() && &table[..length] == text,
+        Shown::Table(length) => length <= LONGEST && &table[..length] == text,
         Shown::Bad(_) | Shown::TooShort => false,
     }
 }

@@ -1,58 +1,33 @@
 // The bytes of a table made alike, whatever program saved it. specs/Understood says what each function answers.
-ghost use Rattle.std.specs.Prelude.{◌≡◌, false, drop, slice_index};
+ghost use Rattle.std.specs.Prelude.{◌≡◌, false, drop};
 ghost use Rattle.text.specs.Text.{Appended};
 ghost use Rattle.table.specs.Understood.{mark_length, turned as Understood·turned, parting as Understood·parting, separator_from, small as Understood·small, content as Understood·content, byte_read_as, plain_byte, plain};
 
-// The byte at a place; 0 past the end.
-fn byte_at(text: &[u8], at: usize) -> u8
-    ensures { result ≡ slice_index text.now at }
-{
-    if at < text.len() {
-        return text[at];
-    }
-    0
-}
-
 // How many bytes the byte order mark takes at the front.
+#[tactic(auto, unfolding(crate::specs::Understood::mark_length))]
 fn mark_length(text: &[u8]) -> usize
     ensures { result ≡ mark_length text.now }
 {
-    if byte_at(text, 0) != 239 {
-        return 0;
+    match text {
+        [0xef, 0xbb, 0xbf, ..] => 3,
+        _ => 0,
     }
-    if byte_at(text, 1) != 187 {
-        return 0;
-    }
-    if byte_at(text, 2) != 191 {
-        return 0;
-    }
-    3
 }
 
 // Whether what follows the byte is quoted.
+#[tactic(auto, unfolding(crate::specs::Understood::turned))]
 fn turned(quoted: bool, byte: u8) -> bool
     ensures { result ≡ Understood·turned quoted byte }
 {
-    if byte == b'"' {
-        return !quoted;
-    }
-    quoted
+    if byte == b'"' { !quoted } else { quoted }
 }
 
 // Whether the byte may part cells.
+#[tactic(auto, unfolding(crate::specs::Understood::parting))]
 fn parting(quoted: bool, byte: u8) -> bool
     ensures { result ≡ Understood·parting quoted byte }
 {
-    if quoted {
-        return false;
-    }
-    if byte == b',' {
-        return true;
-    }
-    if byte == b';' {
-        return true;
-    }
-    byte == b'\t'
+    !quoted && matches!(byte, b',' | b';' | b'\t')
 }
 
 // What parts the cells of the table, from a place on.
@@ -60,42 +35,34 @@ fn separator_of(text: &[u8], from: usize) -> u8
     ensures { result ≡ separator_from false (drop from text.now) }
 {
     let mut quoted = false;
-    let mut i = from;
-    while i < text.len() {
+    for i in from..text.len() {
         let byte = text[i];
         if parting(quoted, byte) {
             return byte;
         }
         quoted = turned(quoted, byte);
-        i += 1;
     }
     b','
 }
 
 // A small letter for a capital one.
+#[tactic(auto, unfolding(crate::specs::Understood::small))]
 fn small(byte: u8) -> u8
     ensures { result ≡ Understood·small byte }
 {
-    if byte < 65 {
-        return byte;
-    }
-    if 90 < byte {
-        return byte;
-    }
-    byte + 32
+    byte.to_ascii_lowercase()
 }
 
 // A byte of a cell.
+#[tactic(auto, unfolding(crate::specs::Understood::content))]
 fn content(byte: u8) -> u8
     ensures { result ≡ Understood·content byte }
 {
-    if byte == b',' {
-        return b';';
-    }
-    small(byte)
+    if byte == b',' { b';' } else { small(byte) }
 }
 
 // A byte as it is read.
+#[tactic(auto, unfolding(crate::specs::Understood::byte_read_as))]
 fn read_as(separator: u8, quoted: bool, byte: u8) -> u8
     ensures { result ≡ byte_read_as separator quoted byte }
 {
@@ -112,16 +79,14 @@ fn read_as(separator: u8, quoted: bool, byte: u8) -> u8
 }
 
 // A byte as it is read, unless it is left out.
+#[tactic(auto, unfolding(crate::specs::Understood::plain_byte), using(text::specs::Laws::Appends::none))]
 fn put_byte(out: &mut [u8], at: usize, separator: u8, quoted: bool, byte: u8) -> usize
     ensures { Appended (plain_byte separator quoted byte) out.old at out.new result }
 {
-    if byte == b'"' {
-        return at;
+    match byte {
+        b'"' | b'\r' => at,
+        _ => text::put(out, at, read_as(separator, quoted, byte)),
     }
-    if byte == b'\r' {
-        return at;
-    }
-    text::put(out, at, read_as(separator, quoted, byte))
 }
 
 // The plain text of a table at the front of a buffer.
@@ -132,12 +97,10 @@ pub(crate) fn put_plain(text: &[u8], out: &mut [u8]) -> usize
     let separator = separator_of(text, from);
     let mut next = 0;
     let mut quoted = false;
-    let mut i = from;
-    while i < text.len() {
+    for i in from..text.len() {
         let byte = text[i];
         next = put_byte(out, next, separator, quoted, byte);
         quoted = turned(quoted, byte);
-        i += 1;
     }
     next
 }

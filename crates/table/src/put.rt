@@ -19,7 +19,7 @@ fn code_in(contents: Values, i: usize) -> u64
     requires { i < permission_limit }
     ensures { result ≡ code_in contents i }
 {
-    contents.codes[i] as u64
+    u64::from(contents.codes[i])
 }
 
 // The row of this index.
@@ -42,22 +42,14 @@ fn policy_in(contents: Values, i: usize) -> Policy
 fn has_persons(form: Form) -> bool
     ensures { result ≡ form_has_persons form }
 {
-    match form {
-        Form::Old => false,
-        Form::Persons => true,
-        Form::Editions => true,
-    }
+    !matches!(form, Form::Old)
 }
 
 // Whether there is a column of editions.
 fn has_editions(form: Form) -> bool
     ensures { result ≡ form_has_editions form }
 {
-    match form {
-        Form::Old => false,
-        Form::Persons => false,
-        Form::Editions => true,
-    }
+    matches!(form, Form::Editions)
 }
 
 // ---- cells, each after its comma
@@ -80,7 +72,7 @@ fn put_number(out: &mut [u8], at: usize, there: bool, n: u32) -> usize
     if !there {
         return at;
     }
-    text::number(out, at, b',', text::wide(n))
+    text::number(out, at, b',', u64::from(n))
 }
 
 // A cell with a mark, or an empty one for 0.
@@ -100,11 +92,9 @@ fn put_marks(out: &mut [u8], at: usize, listed: usize, set: u32) -> usize
 {
     let mut next = at;
     let mut left = set;
-    let mut i = 0;
-    while i < listed {
+    for i in 0..listed {
         next = put_mark(out, next, left % 2);
-        left = left / 2;
-        i += 1;
+        left /= 2;
     }
     next
 }
@@ -114,12 +104,9 @@ fn put_codes(out: &mut [u8], at: usize, contents: Values) -> usize
     requires { contents.code_count ≤ permission_limit }
     ensures { Appended (code_cells contents) out.old at out.new result }
 {
-    let count = contents.code_count;
     let mut next = at;
-    let mut i = 0;
-    while i < count {
+    for i in 0..contents.code_count {
         next = text::number(out, next, b',', code_in(contents, i));
-        i += 1;
     }
     next
 }
@@ -141,7 +128,7 @@ fn put_row_heading(out: &mut [u8], at: usize, persons: bool, contents: Values) -
 fn put_row(out: &mut [u8], at: usize, persons: bool, listed: usize, row: Row) -> usize
     ensures { Appended (line (row_cells persons listed row)) out.old at out.new result }
 {
-    let staffed = text::decimal(out, at, text::wide(row.staff));
+    let staffed = text::decimal(out, at, u64::from(row.staff));
     let named = put_number(out, staffed, persons, row.person);
     let held = put_marks(out, named, listed, row.holdings);
     text::put(out, held, b'\n')
@@ -152,12 +139,9 @@ fn put_rows(out: &mut [u8], at: usize, persons: bool, contents: Values) -> usize
     requires { contents.row_count ≤ row_limit }
     ensures { Appended (rows_text persons contents) out.old at out.new result }
 {
-    let count = contents.row_count;
     let mut next = at;
-    let mut i = 0;
-    while i < count {
+    for i in 0..contents.row_count {
         next = put_row(out, next, persons, contents.code_count, row_in(contents, i));
-        i += 1;
     }
     next
 }
@@ -177,9 +161,9 @@ fn put_policy_heading(out: &mut [u8], at: usize, editions: bool, contents: Value
 fn put_policy(out: &mut [u8], at: usize, editions: bool, listed: usize, policy: Policy) -> usize
     ensures { Appended (line (policy_cells editions listed policy)) out.old at out.new result }
 {
-    let spared = text::decimal(out, at, text::wide(policy.away));
+    let spared = text::decimal(out, at, u64::from(policy.away));
     let crewed = text::number(out, spared, b',', policy.crews as u64);
-    let sized = text::number(out, crewed, b',', text::wide(policy.size));
+    let sized = text::number(out, crewed, b',', u64::from(policy.size));
     let named = put_number(out, sized, editions, policy.edition);
     let asked = put_marks(out, named, listed, policy.task);
     text::put(out, asked, b'\n')
@@ -190,10 +174,8 @@ fn put_policies(out: &mut [u8], at: usize, editions: bool, contents: Values) -> 
     requires { contents.policy_count ≤ policy_limit }
     ensures { Appended (policies_text editions contents) out.old at out.new result }
 {
-    let count = contents.policy_count;
     let mut next = at;
-    let mut i = 0;
-    while i < count {
+    for i in 0..contents.policy_count {
         next = put_policy(
             out,
             next,
@@ -201,7 +183,6 @@ fn put_policies(out: &mut [u8], at: usize, editions: bool, contents: Values) -> 
             contents.code_count,
             policy_in(contents, i),
         );
-        i += 1;
     }
     next
 }

@@ -1,5 +1,5 @@
 -- The loop puts one code after the other. Assumes nothing.
-use Rattle.std.proofs.Common.{ℕ, ◌-◌, ◌≤◌, List, ◌∷◌}
+use Rattle.std.proofs.Common.{ℕ, ◌-◌, List, ◌∷◌}
 use Rattle.text.specs.Text.{comma, decimal}
 use Rattle.values.specs.Inner.Looks.{code_in}
 use Rattle.text.specs.Laws.Appends.{SoFar}
@@ -11,7 +11,4 @@ abbrev pub entry : Values → ℕ → List ℕ
 entry values i = comma ∷ decimal (code_in values i)
 
 abbrev pub invariant-loop-i : goal.invariant-loop-i
-invariant-loop-i l = (l.i ≤ l.count) × SoFar (in_order (entry l.contents) 0 l.count) (in_order (entry l.contents) l.i (l.count - l.i)) l.initial.out l.at l.out l.next
-
-abbrev pub decreases-loop-i : goal.decreases-loop-i
-decreases-loop-i l = l.count - l.i
+invariant-loop-i l = SoFar (in_order (entry l.contents) 0 l.contents.code_count) (in_order (entry l.contents) l.i (l.contents.code_count - l.i)) l.initial.out l.at l.out l.next

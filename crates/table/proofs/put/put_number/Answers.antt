@@ -1,5 +1,5 @@
 -- The number after its comma, or nothing. Assumes nothing.
-use Rattle.std.proofs.Common.{ℕ, ◌∷◌, ap, ◌∙◌}
+use Rattle.std.proofs.Common.{◌≡◌, ℕ, ◌∷◌, ap, ◌∙◌, rules}
 use Rattle.text.specs.Text.{comma, decimal}
 use Rattle.text.specs.Laws.Appends.{none, read_as}
 use Rattle.table.proofs.Puts.{present, absent}
@@ -10,6 +10,6 @@ returns-then-not-there c = let a = c.args in
     read_as (absent (decimal a.n) c.if-not-there.true) (none _ _)
 
 pub returns : goal.returns
-returns c = read_as
-    (ap (λ (n : ℕ). comma ∷ decimal n) c.wide.ensures ∙ present c.if-not-there.false)
-    c.number.ensures
+returns c =
+    let same : c.from.result ≡ c.args.n = search rules in
+    read_as (ap (λ (n : ℕ). comma ∷ decimal n) same ∙ present c.if-not-there.false) c.number.ensures

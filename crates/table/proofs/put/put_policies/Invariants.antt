@@ -1,5 +1,5 @@
 -- The loop puts one policy after the other. Assumes nothing.
-use Rattle.std.proofs.Common.{ℕ, ◌-◌, ◌≤◌, Bool, List}
+use Rattle.std.proofs.Common.{ℕ, ◌-◌, Bool, List}
 use Rattle.table.specs.Table.{policy_cells}
 use Rattle.table.specs.Inner.Puts.{line}
 use Rattle.values.specs.Inner.Looks.{policy_given}
@@ -12,7 +12,4 @@ abbrev pub entry : Bool → Values → ℕ → List ℕ
 entry editions values i = line (policy_cells editions values.code_count (policy_given values i))
 
 abbrev pub invariant-loop-i : goal.invariant-loop-i
-invariant-loop-i l = (l.i ≤ l.count) × SoFar (in_order (entry l.editions l.contents) 0 l.count) (in_order (entry l.editions l.contents) l.i (l.count - l.i)) l.initial.out l.at l.out l.next
-
-abbrev pub decreases-loop-i : goal.decreases-loop-i
-decreases-loop-i l = l.count - l.i
+invariant-loop-i l = SoFar (in_order (entry l.editions l.contents) 0 l.contents.policy_count) (in_order (entry l.editions l.contents) l.i (l.contents.policy_count - l.i)) l.initial.out l.at l.out l.next

@@ -1,5 +1,5 @@
 -- The loop puts one row after the other. Assumes nothing.
-use Rattle.std.proofs.Common.{ap, arith}
+use Rattle.std.proofs.Common.{ap}
 use Rattle.book.specs.declared.Row.{Row}
 use Rattle.table.specs.Table.{row_cells}
 use Rattle.table.specs.Inner.Puts.{line}
@@ -10,13 +10,11 @@ use Rattle.table.proofs.put.put_rows.Goals as goal
 
 pub loop-i-preserved : goal.loop-i-preserved
 loop-i-preserved c = let l = c.loop-i in
-    let a = c.args in (
-      omega arith,
-      step _ (with_rest (order_next (entry a.persons a.contents) l.i a.contents.row_count c.loop-i-test.true) l.invariant.1)
-          (read_as (ap (λ (row : Row). line (row_cells a.persons a.contents.code_count row)) c.row_in.ensures) c.put_row-next.ensures),
-    )
+    let a = c.args in
+    step _ (with_rest (order_next (entry a.persons a.contents) l.i a.contents.row_count c.loop-i-test.true) l.invariant)
+        (read_as (ap (λ (row : Row). line (row_cells a.persons a.contents.code_count row)) c.row_in.ensures) c.put_row-next.ensures)
 
 pub returns : goal.returns
 returns c = let l = c.loop-i in
     let a = c.args in
-    finish (with_rest (order_last (entry a.persons a.contents) l.i a.contents.row_count c.loop-i-test.false) l.invariant.1)
+    finish (with_rest (order_last (entry a.persons a.contents) l.i a.contents.row_count c.loop-i-test.false) l.invariant)

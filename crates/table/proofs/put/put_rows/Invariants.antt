@@ -1,5 +1,5 @@
 -- The loop puts one row after the other. Assumes nothing.
-use Rattle.std.proofs.Common.{ℕ, ◌-◌, ◌≤◌, Bool, List}
+use Rattle.std.proofs.Common.{ℕ, ◌-◌, Bool, List}
 use Rattle.table.specs.Table.{row_cells}
 use Rattle.table.specs.Inner.Puts.{line}
 use Rattle.values.specs.Inner.Looks.{row_in}
@@ -12,7 +12,4 @@ abbrev pub entry : Bool → Values → ℕ → List ℕ
 entry persons values i = line (row_cells persons values.code_count (row_in values i))
 
 abbrev pub invariant-loop-i : goal.invariant-loop-i
-invariant-loop-i l = (l.i ≤ l.count) × SoFar (in_order (entry l.persons l.contents) 0 l.count) (in_order (entry l.persons l.contents) l.i (l.count - l.i)) l.initial.out l.at l.out l.next
-
-abbrev pub decreases-loop-i : goal.decreases-loop-i
-decreases-loop-i l = l.count - l.i
+invariant-loop-i l = SoFar (in_order (entry l.persons l.contents) 0 l.contents.row_count) (in_order (entry l.persons l.contents) l.i (l.contents.row_count - l.i)) l.initial.out l.at l.out l.next
