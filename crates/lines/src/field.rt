@@ -12,7 +12,7 @@ fn member(out: &mut [u8], at: usize, numbers: &[u32; Policy::ROWS], mark: u8, ro
     requires { row < row_limit }
     ensures { Appended (mark ∷ decimal (get_or numbers.now row 0)) out.old at out.new result }
 {
-    text::number(out, at, mark, text::wide(numbers[row]))
+    text::number(out, at, mark, u64::from(numbers[row]))
 }
 
 // The numbers of a set's persons in their order, the first after `mark`, the others after commas; nothing of an empty set.
@@ -34,14 +34,12 @@ fn crews(out: &mut [u8], at: usize, numbers: &[u32; Policy::ROWS], mark: u8, set
 {
     let mut next = at;
     let mut before = mark;
-    let mut j = 0;
-    while j < sets.len() {
-        if sets[j] == 0 {
+    for &crew in sets {
+        if crew == 0 {
             return next;
         }
-        next = members(out, next, numbers, before, sets[j]);
+        next = members(out, next, numbers, before, crew);
         before = b'/';
-        j += 1;
     }
     next
 }
@@ -68,13 +66,11 @@ fn one_set(out: &mut [u8], at: usize, numbers: &[u32; Policy::ROWS], set: u64) -
 fn all_crews(out: &mut [u8], at: usize, numbers: &[u32; Policy::ROWS], sets: &[u64]) -> usize
     ensures { Appended (space ∷ crews_text numbers.now sets.now) out.old at out.new result }
 {
-    if sets.len() == 0 {
-        return no_set(out, at);
+    match sets {
+        [] => no_set(out, at),
+        [0, ..] => no_set(out, at),
+        _ => crews(out, at, numbers, b' ', sets),
     }
-    if sets[0] == 0 {
-        return no_set(out, at);
-    }
-    crews(out, at, numbers, b' ', sets)
 }
 
 // The sets that go with the verdict, after a space.
@@ -87,12 +83,8 @@ pub(crate) fn sets_field(
     requires { length reply.crews ≡ crew_limit }
     ensures { Appended (space ∷ sets_text numbers.now reply reply.verdict) out.old at out.new result }
 {
-    let verdict = reply.verdict;
-    match verdict {
-        Verdict::Yes => {
-            let crews = reply.crews;
-            all_crews(out, at, numbers, &crews)
-        }
+    match reply.verdict {
+        Verdict::Yes => all_crews(out, at, numbers, &reply.crews),
         Verdict::No => one_set(out, at, numbers, reply.blocker),
         _ => no_set(out, at),
     }

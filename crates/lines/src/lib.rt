@@ -53,11 +53,10 @@ fn line(
     requires { length reply.crews ≡ crew_limit }
     ensures { Appended (line_of numbers.now index reply) out.old at out.new result }
 {
-    let verdict = reply.verdict;
     let counted = text::decimal(out, at, index as u64);
     let spaced = text::put(out, counted, b' ');
-    let judged = verdict_word(out, spaced, verdict);
-    let spent = text::number(out, judged, b' ', text::wide(reply.units));
+    let judged = verdict_word(out, spaced, reply.verdict);
+    let spent = text::number(out, judged, b' ', u64::from(reply.units));
     let named = field::sets_field(out, spent, numbers, reply);
     text::put(out, named, b'\n')
 }
@@ -67,7 +66,7 @@ pub fn bad_line(out: &mut [u8], fault: u32, place: usize) -> usize
     ensures { Appended (bad_line fault place) out.old 0 out.new result }
 {
     let called = text::word(out, 0, b"bad");
-    let numbered = text::number(out, called, b' ', text::wide(fault));
+    let numbered = text::number(out, called, b' ', u64::from(fault));
     let placed = text::number(out, numbered, b' ', place as u64);
     text::put(out, placed, b'\n')
 }
@@ -121,10 +120,8 @@ fn all_lines(book: &[u8], out: &mut [u8]) -> usize
     let numbers = people.numbers;
     let count = book::policy_count(book);
     let mut at = 0;
-    let mut index = 0;
-    while index < count {
+    for index in 0..count {
         at = policy_line(book, out, at, &numbers, accounts, index);
-        index += 1;
     }
     at
 }

@@ -20,21 +20,6 @@ pub separator_none : (text : List ℕ) (quoted : Bool) (i : ℕ) → length text
 unfolding separator_from
 separator_none text quoted i h = ap (separator_from quoted) (drop_of_length-le text h)
 
--- ---- a byte that is left out, and one that is not
-
-module _ (separator : ℕ) (quoted : Bool) (c : ℕ) where
-  pub left_out_quote : c ≡ quote → [] ≡ plain_byte separator quoted c
-  unfolding plain_byte
-  left_out_quote e = rw (plain_byte, eq-eqb c quote e)
-
-  pub left_out_return : c ≢ quote → c ≡ return → [] ≡ plain_byte separator quoted c
-  unfolding plain_byte
-  left_out_return n e = rw (plain_byte, ne_eqb c quote n, eq-eqb c return e)
-
-  pub not_left_out : {r : ℕ} → c ≢ quote → c ≢ return → r ≡ byte_read_as separator quoted c → r ∷ [] ≡ plain_byte separator quoted c
-  unfolding plain_byte
-  not_left_out n m e = ap (λ (x : ℕ). x ∷ []) e ∙ sym (rw (plain_byte, ne_eqb c quote n, ne_eqb c return m))
-
 -- ---- byte by byte
 
 pub plain_next : (separator : ℕ) (quoted : Bool) (text : List ℕ) (i : ℕ) {t : Bool} → i < length text → t ≡ turned quoted (get_or text i 0)

@@ -11,23 +11,7 @@ use Rattle.table.specs.Inner.Fitting.{between, Within, IsPiece, kept_if, cell_if
 use Rattle.table.specs.Laws.Cuts.{cut-past}
 use Rattle.table.specs.Laws.Fits.{cells_from, cells_next, blank-line, heading_line, headed_line, ended-cons, ended_gap}
 
--- ---- a cell
-
-module _ (stays begun : Bool) (cell : List ℕ) where
-  pub cell_out : stays ≡ false → [] ≡ cell_if stays begun cell
-  cell_out e = sym (ap (λ (s : Bool). cell_if s begun cell) e)
-
-  pub cell_behind : stays ≡ true → begun ≡ true → (comma ∷ []) ++ cell ≡ cell_if stays begun cell
-  cell_behind e f = sym (ap (λ (s : Bool). cell_if s begun cell) e ∙ ap (λ (b : Bool). cell_if true b cell) f)
-
-  pub cell_first : stays ≡ true → begun ≡ false → cell ≡ cell_if stays begun cell
-  cell_first e f = sym (ap (λ (s : Bool). cell_if s begun cell) e ∙ ap (λ (b : Bool). cell_if true b cell) f)
-
-pub or_yes : (a b : Bool) → a ≡ true → true ≡ (a || b)
-or_yes a b e = sym (ap (λ (x : Bool). x || b) e)
-
-pub or_no : (a b : Bool) → a ≡ false → b ≡ (a || b)
-or_no a b e = sym (ap (λ (x : Bool). x || b) e)
+-- ---- the end of a line, and the gap before one
 
 pub end_begun : (begun : Bool) → begun ≡ true → newline ∷ [] ≡ cells_after begun [] ++ (newline ∷ [])
 unfolding cells_after marked
@@ -46,15 +30,6 @@ unfolding ended
 gap_none begun e = sym (ap (λ (b : Bool). ended (gap_if b)) e)
 
 -- ---- a turn of the loop over the cells
-
--- something is left, and each side that has something left moves on
-pub less_left : (lh h h' ll c c' : ℕ) → h ≤ h' → c ≤ c' → h' ≤ lh → c' ≤ ll → (h < lh → h < h') → (c < ll → c < c') → 0 < (lh - h) + (ll - c)
-    → (lh - h') + (ll - c') < (lh - h) + (ll - c)
-less_left lh h h' ll c c' a b p q f g some = go (dec_lt h lh)
-  where
-    go : Dec (h < lh) → (lh - h') + (ll - c') < (lh - h) + (ll - c)
-    go (yes l) = let m = f l in omega arith
-    go (no n) = let m = g (omega arith) in omega arith
 
 pub turn : (heading line : List ℕ) (h c : ℕ) (begun kept after : Bool) (p q : Piece) (x y : List ℕ) → IsPiece heading h comma p → IsPiece line c comma q
     → x ≡ between h p.end heading → y ≡ between c q.end line → under x y ≡ kept_if kept y → after ≡ (begun || kept)

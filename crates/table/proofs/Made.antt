@@ -59,15 +59,6 @@ module _ (bytes old new : List ℕ) (n : ℕ) (a : Appended bytes old 0 new n) w
       p : (n ≡ length bytes) × (new ≡ bytes ++ drop (length bytes) old)
       p = stands (omega arith)
 
--- ---- nothing was written
-
-pub wrong_makes : (text old : List ℕ) (r : Result ℕ NotMade) (t : Trouble) → r ≡ Err (Wrong t) → MakesOf text old old r
-wrong_makes text old r t e = record {
-  made = λ n f. let z : ◌≡◌ {A = ℕ} 0 1 = cc in absurd (omega arith);
-  wrong = λ t' f. refl;
-  long = λ f. let z : ◌≡◌ {A = ℕ} 0 1 = cc in omega arith;
-}
-
 -- the same text by another name
 pub retold : {a b old new : List ℕ} {r : Result ℕ NotMade} → a ≡ b → MakesOf (tidy a) old new r → MakesOf (tidy b) old new r
 retold {old = old} {new = new} {r = r} e m = subst (λ (l : List ℕ). MakesOf (tidy l) old new r) e m

@@ -1,4 +1,4 @@
--- The loop writes one policy's line after the other. Its measure is how many are left. Assumes nothing.
+-- The loop writes one policy's line after the other. Assumes nothing.
 use mathlib.Core.Path.{◌≡◌, sym, ap, ◌∙◌}
 use mathlib.Core.List.{List, [], ◌++◌}
 use Prim.Native.Nat.{ℕ, suc, ◌-◌, ◌≤◌, ◌<◌}
@@ -39,14 +39,12 @@ policy_line-at-requires c = let accounts = c.accounts_of-accounts.ensures.reply 
 pub loop-index-preserved : goal.loop-index-preserved
 loop-index-preserved c = let l = c.loop-index in
     let book = c.args.book.now in
-    let count = c.policy_count-count.result in (
-      omega arith,
-      with_rest (ap (λ (k : ℕ). lines_from book k (count - k)) (sym (add-one l.index)))
-          (step (line_by book l.index (policy_at book l.index)) (with_rest (next book l.index count c.loop-index-test.true) l.invariant.1)
-          c.policy_line-at.ensures),
-    )
+    let count = c.policy_count-count.result in
+    with_rest (ap (λ (k : ℕ). lines_from book k (count - k)) (sym (add-one l.index)))
+        (step (line_by book l.index (policy_at book l.index)) (with_rest (next book l.index count c.loop-index-test.true) l.invariant)
+        c.policy_line-at.ensures)
 
 pub returns : goal.returns
 returns c = let l = c.loop-index in
     let book = c.args.book.now in
-    read_as (all (goal.at.returns c).After-policy_count-count) (finish (with_rest (last book l.index c.policy_count-count.result c.loop-index-test.false) l.invariant.1))
+    read_as (all (goal.at.returns c).After-policy_count-count) (finish (with_rest (last book l.index c.policy_count-count.result c.loop-index-test.false) l.invariant))

@@ -1,7 +1,7 @@
 -- The parts of the line are appended one after the other, and in this order they are the line. Assumes nothing.
 use mathlib.Core.Path.{◌≡◌, ap}
 use mathlib.Core.List.{List, [], ◌∷◌, ◌++◌, append_assoc, append-nil}
-use Prim.Native.Nat.{ℕ}
+use Rattle.std.proofs.Common.{ℕ, rules}
 use Rattle.roster.specs.declared.Reply.{Reply}
 use Rattle.text.specs.Text.{space, newline, decimal, marked, joined}
 use Rattle.text.specs.Laws.Appends.{◌then◌, read_as}
@@ -21,7 +21,8 @@ parts numbers index reply = simp (append_assoc, append-nil)
 
 pub returns : goal.returns
 returns c = let a = c.args in
-    let units = read_as (ap (λ (n : ℕ). space ∷ decimal n) c.wide.ensures) c.number-spent.ensures in
+    let same : c.from.result ≡ a.reply.units = search rules in
+    let units = read_as (ap (λ (n : ℕ). space ∷ decimal n) same) c.number-spent.ensures in
     read_as (parts a.numbers.now a.index a.reply)
     (c.decimal-counted.ensures
     then c.put-spaced.ensures

@@ -29,14 +29,14 @@ some numbers [] n = absurd (n refl)
 some numbers (zero ∷ l) n = absurd (n refl)
 some numbers (suc x ∷ l) n = mark-joined space between_crews (map (set_text numbers) (suc x ∷ filled l)) (λ z. omega arith)
 
-pub returns-then-sets-eq0 : goal.returns-then-sets-eq0
-returns-then-sets-eq0 c = let a = c.args in
-    read_as (sym (none a.numbers.now a.sets.now c.if-sets-eq0.true)) c.no_set.ensures
+pub returns-in-empty : goal.returns-in-empty
+returns-in-empty c = let a = c.args in
+    read_as (sym (none a.numbers.now a.sets.now (omega arith))) c.no_set.ensures
 
-pub returns-then-sets-eq0-2 : goal.returns-then-sets-eq0-2
-returns-then-sets-eq0-2 c = let a = c.args in
-    read_as (sym (empty a.numbers.now a.sets.now c.if-sets-eq0-2.true)) c.no_set-then-sets-eq0-2.ensures
+pub returns-in-0 : goal.returns-in-0
+returns-in-0 c = let a = c.args in
+    read_as (sym (empty a.numbers.now a.sets.now (omega arith))) c.no_set-in-0.ensures
 
-pub returns : goal.returns
-returns c = let a = c.args in
-    read_as (sym (some a.numbers.now a.sets.now c.if-sets-eq0-2.false)) c.crews.ensures
+pub returns-in_default : goal.returns-in_default
+returns-in_default c = let a = c.args in
+    read_as (sym (some a.numbers.now a.sets.now (λ e. omega (arith, e)))) c.crews.ensures
