@@ -3,11 +3,12 @@
 // A table is the holdings of its rows, `3,1,2,3`, in which `64x1` stands for 64 rows that hold 1, and `-` for no row. `3:7` is a row of the person with
 // the number 7; a row without a person number is a person of its own. A policy is P;s,d,t of the first edition, or P;s,d,t;E; persons are joined by
 // commas. `with N` at the end is the allowance, which is ample without it.
-use crate::line::Line;
-use crate::words::{after, behind, byte_at, narrow, next_word, number_at};
+use crate::line::Replied;
+use crate::words::{around, first_word, narrow, number, word};
 use accounts::Accounts;
 use questions::Way;
 use roster::Policy;
+use std::alloc::{AllocError, Global};
 
 // More than any need here.
 const AMPLE: u32 = 4294967295;
@@ -15,65 +16,47 @@ const AMPLE: u32 = 4294967295;
 // What stands past the row count plays no part: everything is held there, by the person of the first row if that is its own.
 const NOISE: u32 = 4294967295;
 
-// Rows that hold the same, `64x1`, or one row; whose they are; and the place behind them.
+// Rows that hold the same, and whose they are: one person's, or each its own.
 #[derive(Clone, Copy)]
-pub struct Alike {
+struct Alike {
     count: usize,
     held: u32,
-    own: bool,
-    person: u32,
-    next: usize,
+    person: Option<u32>,
 }
 
 impl Alike {
     // The person number that this row has of them. No person number of a case is as large as those of rows that are their own.
-    fn person_of(self, row: usize) -> u32 {
-        if self.own {
-            return std::num::wrapping_sub_u32(NOISE, narrow(row as u64));
-        }
+    fn person_of(&self, row: usize) -> u32 {
         self.person
+            .unwrap_or(NOISE.wrapping_sub(narrow(row as u64)))
+    }
+}
+
+// Rows as they are written, `64x1` or one, which is each its own person or all of the one whose number follows.
+fn alike_of(rows: &str) -> Alike {
+    let (count, row) = rows.split_once('x').unwrap_or(("1", rows));
+    let (held, person) = match row.split_once(':') {
+        Some((held, person)) => (held, Some(narrow(number(person)))),
+        None => (row, None),
+    };
+    Alike {
+        count: number(count) as usize,
+        held: narrow(number(held)),
+        person,
     }
 }
 
 // These rows behind the others.
-pub(crate) fn with_rows(accounts: Accounts, alike: Alike) -> Accounts {
-    let mut holdings = accounts.holdings;
-    let mut persons = accounts.persons;
+pub(crate) fn with_rows(mut accounts: Accounts, rows: &str) -> Accounts {
+    let alike = alike_of(rows);
     let from = accounts.rows;
-    let to = std::num::wrapping_add_usize(from, alike.count);
-    for row in 0..Policy::ROWS {
-        if row >= from && row < to {
-            holdings[row] = alike.held;
-            persons[row] = alike.person_of(row);
-        }
+    let to = from.wrapping_add(alike.count);
+    for row in from..to.min(Policy::ROWS) {
+        accounts.holdings[row] = alike.held;
+        accounts.persons[row] = alike.person_of(row);
     }
-    Accounts {
-        holdings: holdings,
-        persons: persons,
-        rows: to,
-    }
-}
-
-// Rows that hold this, each its own person, or all of the one whose number follows.
-pub(crate) fn held_at(text: &[u8], at: usize, count: u64) -> Alike {
-    let held = number_at(text, at);
-    let own = byte_at(text, held.next) != b':';
-    let person = number_at(text, after(held.next));
-    Alike {
-        count: count as usize,
-        held: narrow(held.value),
-        own: own,
-        person: narrow(person.value),
-        next: if own { held.next } else { person.next },
-    }
-}
-
-fn alike_at(text: &[u8], at: usize) -> Alike {
-    let count = number_at(text, at);
-    if byte_at(text, count.next) == b'x' {
-        return held_at(text, after(count.next), count.value);
-    }
-    held_at(text, at, 1)
+    accounts.rows = to;
+    accounts
 }
 
 // No row yet.
@@ -85,95 +68,75 @@ pub(crate) fn nobody() -> Accounts {
     }
 }
 
-pub(crate) fn accounts_at(text: &[u8], at: usize) -> Accounts {
+fn accounts_of(table: &str) -> Accounts {
+    if table == "-" {
+        return nobody();
+    }
     let mut accounts = nobody();
-    let mut place = at;
-    for _ in 0..Policy::ROWS {
-        let alike = alike_at(text, place);
-        if alike.next == place {
-            return accounts;
-        }
-        accounts = with_rows(accounts, alike);
-        if byte_at(text, alike.next) != b',' {
-            return accounts;
-        }
-        place = after(alike.next);
+    for rows in table.split(',') {
+        accounts = with_rows(accounts, rows);
     }
     accounts
 }
 
-pub(crate) fn policy_at(text: &[u8], at: usize) -> Policy {
-    let task = number_at(text, at);
-    let away = number_at(text, after(task.next));
-    let crews = number_at(text, after(away.next));
-    let size = number_at(text, after(crews.next));
+fn policy_of(text: &str) -> Policy {
+    let (task, rest) = around(text, ";");
+    let (limits, edition) = rest.split_once(';').unwrap_or((rest, "1"));
+    let mut limits = limits.split(',').map(number);
     Policy {
-        task: narrow(task.value),
-        away: narrow(away.value),
-        crews: crews.value as usize,
-        size: narrow(size.value),
-        edition: edition_at(text, size.next),
+        task: narrow(number(task)),
+        away: narrow(limits.next().unwrap_or(0)),
+        crews: limits.next().unwrap_or(0) as usize,
+        size: narrow(limits.next().unwrap_or(0)),
+        edition: narrow(number(edition)),
     }
 }
 
-// The edition that stands behind t; the first where none does.
-fn edition_at(text: &[u8], at: usize) -> u32 {
-    if byte_at(text, at) != b';' {
-        return 1;
-    }
-    narrow(number_at(text, after(at)).value)
-}
-
-fn one(person: u64) -> u64 {
-    if person < 64 { 1u64 << person } else { 0 }
-}
-
-// The set of the persons that stand here; empty where there is no number.
-pub(crate) fn set_at(text: &[u8], at: usize) -> u64 {
-    let mut set: u64 = 0;
-    let mut place = at;
-    for _ in 0..Policy::ROWS {
-        let person = number_at(text, place);
-        if person.next == place {
-            return set;
+// The set of these persons; empty where there is no number.
+fn set_of(persons: &str) -> u64 {
+    let mut set = 0;
+    for person in persons.split(',') {
+        if let Ok(person) = person.parse::<u32>() {
+            set |= 1u64.checked_shl(person).unwrap_or(0);
         }
-        set = set | one(person.value);
-        if byte_at(text, person.next) != b',' {
-            return set;
-        }
-        place = after(person.next);
     }
     set
 }
 
-pub(crate) fn allowance_at(text: &[u8], at: usize) -> u32 {
-    let place = behind(text, at, b"with");
-    if byte_at(text, place) == b'\n' {
-        return AMPLE;
+// A question: TABLE POLICY, and behind it what there is of the absent and the allowance.
+#[derive(Clone, Copy)]
+pub struct Asked {
+    pub accounts: Accounts,
+    pub policy: Policy,
+    pub absent: u64,
+    pub allowance: u32,
+}
+
+impl Asked {
+    pub(crate) fn read(line: &str) -> Asked {
+        let (_, absent) = around(line, " absent");
+        let (absent, _) = first_word(absent);
+        Asked {
+            accounts: accounts_of(word(line, 0)),
+            policy: policy_of(word(line, 1)),
+            absent: set_of(absent),
+            allowance: match around(line, " with") {
+                (_, "") => AMPLE,
+                (_, allowance) => narrow(number(allowance)),
+            },
+        }
     }
-    narrow(number_at(text, place).value)
 }
 
-pub(crate) fn skipping(text: &[u8], at: usize) -> Line {
-    let asked = policy_at(text, next_word(text, at));
-    let reply = questions::ask(Way::Skipping, accounts_at(text, at), asked, allowance_at(text, at));
-    Line::empty().reply(reply)
-}
-
-pub(crate) fn full(text: &[u8], at: usize) -> Line {
-    let asked = policy_at(text, next_word(text, at));
-    let reply = questions::ask(Way::Full, accounts_at(text, at), asked, allowance_at(text, at));
-    Line::empty().reply(reply)
+pub(crate) fn policy(alloc: Global, way: Way, line: &str) -> Result<String, AllocError> {
+    let asked = Asked::read(line);
+    let reply = questions::ask(way, asked.accounts, asked.policy, asked.allowance);
+    format!(in alloc; "{}", Replied(reply))
 }
 
 // How many may be away plays no part here.
-pub(crate) fn named(text: &[u8], at: usize) -> Line {
-    let asked = policy_at(text, next_word(text, at));
-    let reply = questions::ask_named(
-        accounts_at(text, at),
-        asked,
-        set_at(text, behind(text, at, b"absent")),
-        allowance_at(text, at),
-    );
-    Line::empty().reply(reply)
+pub(crate) fn named(alloc: Global, line: &str) -> Result<String, AllocError> {
+    let asked = Asked::read(line);
+    let reply = questions::ask_named(asked.accounts, asked.policy, asked.absent, asked.allowance);
+    format!(in alloc; "{}", Replied(reply))
 }

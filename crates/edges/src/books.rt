@@ -3,96 +3,92 @@
 // have names: `B`, `listed`, `longest`, `permissions 31` for the codes from 0 to 30, `file weekend.book` for what that file has.
 ghost use Rattle.std.specs.Counts.{IsPrefixLen};
 
-use crate::draft::{Draft, ROOM, b, empty, longest, permissions_to};
-use crate::words::{WORDS, argument, byte_of, is_word, narrow, next_word, part, word_end};
+use crate::draft::Draft;
+use crate::words::{byte_of, narrow, number, numbers, word};
+use std::alloc::{AllocError, Global};
 use std::rt::Files;
 
+// One byte more than the longest book and some besides.
+pub const ROOM: usize = 1100;
+
+// No text of a file is longer.
+pub const TEXT: usize = 65536;
+
 // Puts what the file has into the buffer, and answers how many bytes: none where there is no such file.
-pub(crate) fn load(rt: &impl Files, name: &[u8], room: &mut [u8]) -> usize
+pub(crate) fn load(rt: &impl Files, name: &str, room: &mut [u8]) -> usize
     ensures { IsPrefixLen result room.new }
 {
-    let Ok(path) = str::from_utf8(name) else {
-        return 0;
-    };
-    input::read_file(rt, path, room).unwrap_or(0)
+    input::read_file(rt, name, room).unwrap_or(0)
 }
 
-fn book_of_file(rt: &impl Files, name: &[u8]) -> Draft {
-    let mut bytes = [0u8; ROOM];
-    let length = load(rt, name, &mut bytes);
-    Draft {
-        bytes: bytes,
-        length: length,
-    }
+// The same as text, of a file that has nothing else.
+pub(crate) fn text<'a>(rt: &impl Files, name: &str, room: &'a mut [u8; TEXT]) -> &'a str {
+    let size = load(rt, name, room);
+    str::from_utf8(&room[..size]).unwrap_or("")
 }
 
-// A book that has a name, by which the word that stands here calls it; else the book as it is.
-pub(crate) fn called(rt: &impl Files, book: Draft, text: &[u8], at: usize) -> Draft {
-    if is_word(text, at, b"B") {
-        return b();
-    }
-    if is_word(text, at, b"listed") {
-        return empty().count(2).code(10).code(20);
-    }
-    if is_word(text, at, b"longest") {
-        return longest();
-    }
-    if is_word(text, at, b"permissions") {
-        return permissions_to(byte_of(argument(text, at, 1)));
-    }
-    if is_word(text, at, b"file") {
-        let name = next_word(text, at);
-        return book_of_file(rt, part(text, name, word_end(text, name)));
-    }
-    book
+fn book_of_file(rt: &impl Files, alloc: Global, name: &str) -> Result<Draft, AllocError> {
+    let mut room = [0u8; ROOM];
+    let size = load(rt, name, &mut room);
+    let mut book = Draft::empty(alloc);
+    book.bytes.extend_from_slice(&room[..size])?;
+    Ok(book)
 }
 
-// The book with the entry that stands here. A number stands for none: it belongs to the word before it.
-fn with_entry(rt: &impl Files, book: Draft, text: &[u8], at: usize) -> Draft {
-    let first = argument(text, at, 1);
-    if is_word(text, at, b"count") {
-        return book.count(byte_of(first));
-    }
-    if is_word(text, at, b"byte") || is_word(text, at, b"edition") {
-        return book.byte(byte_of(first));
-    }
-    if is_word(text, at, b"code") {
-        return book.code(narrow(first));
-    }
-    if is_word(text, at, b"row") {
-        return book.row(narrow(first), narrow(argument(text, at, 2)));
-    }
-    if is_word(text, at, b"account") {
-        return book.account(
+// The book that the word with this index calls by a name, if it does.
+pub(crate) fn called(
+    rt: &impl Files,
+    alloc: Global,
+    line: &str,
+    at: usize,
+) -> Result<Option<Draft>, AllocError> {
+    let named = word(line, at.wrapping_add(1));
+    Ok(Some(match word(line, at) {
+        "B" => Draft::b(alloc)?,
+        "listed" => Draft::listed(alloc)?,
+        "longest" => Draft::longest(alloc)?,
+        "permissions" => Draft::permissions_to(alloc, byte_of(number(named)))?,
+        "file" => book_of_file(rt, alloc, named)?,
+        _ => return Ok(None),
+    }))
+}
+
+// The entry that the word with this index begins, put behind the others. A number begins none: it belongs to the word before it.
+fn add_entry(book: &mut Draft, line: &str, at: usize) -> Result<(), AllocError> {
+    let [first, second, third, fourth] = numbers::<4>(line, at.wrapping_add(1));
+    match word(line, at) {
+        "count" => book.count(byte_of(first)),
+        "byte" | "edition" => book.byte(byte_of(first)),
+        "code" => book.code((narrow(first) % 65536) as u16),
+        "row" => book.row(narrow(first), narrow(second)),
+        "account" => book.account(narrow(first), narrow(second), narrow(third)),
+        "policy" => book.policy(
             narrow(first),
-            narrow(argument(text, at, 2)),
-            narrow(argument(text, at, 3)),
-        );
-    }
-    if is_word(text, at, b"policy") {
-        return book.policy(
-            narrow(first),
-            byte_of(argument(text, at, 2)),
-            byte_of(argument(text, at, 3)),
-            byte_of(argument(text, at, 4)),
-        );
-    }
-    if is_word(text, at, b"cut") {
-        return book.cut(first as usize);
-    }
-    called(rt, book, text, at)
-}
-
-// The book that stands from here to `=`.
-pub(crate) fn book_at(rt: &impl Files, text: &[u8], at: usize) -> Draft {
-    let mut book = empty();
-    let mut place = at;
-    for _ in 0..WORDS {
-        if is_word(text, place, b"=") {
-            return book;
+            byte_of(second),
+            byte_of(third),
+            byte_of(fourth),
+        ),
+        "cut" => {
+            book.bytes.truncate(first as usize);
+            Ok(())
         }
-        book = with_entry(rt, book, text, place);
-        place = next_word(text, place);
+        _ => Ok(()),
     }
-    book
+}
+
+// The book that the line writes from the word with this index on.
+pub(crate) fn book_at(
+    rt: &impl Files,
+    alloc: Global,
+    line: &str,
+    from: usize,
+) -> Result<Draft, AllocError> {
+    let mut book = Draft::empty(alloc);
+    for (at, _) in line.split(' ').enumerate().skip(from) {
+        match called(rt, alloc, line, at)? {
+            Some(named) => book = named,
+            None => add_entry(&mut book, line, at)?,
+        }
+    }
+    Ok(book)
 }

@@ -1,46 +1,42 @@
 // Why a named absence blocks, as cases ask it: `why TABLE POLICY absent PERSONS`, written as the other questions are. An answer is the reason, 1, 2
 // or 3, or `nothing`, `undecided` or `refused:N`; the permission of reason 1 as bit number, else `-`; and the units.
-use crate::asked::{accounts_at, allowance_at, policy_at, set_at};
-use crate::line::Line;
-use crate::words::{behind, next_word};
+use crate::asked::Asked;
 use reasons::{Explained, Explanation};
+use std::alloc::{AllocError, Global};
+use std::fmt;
 
-fn wide(n: u32) -> u64 {
-    n as u64
-}
+// The reason, or why there is none.
+#[derive(Clone, Copy)]
+struct Reason(Explanation);
 
-fn reason(line: Line, why: Explanation) -> Line {
-    match why {
-        Explanation::Nothing => line.word(b"nothing"),
-        Explanation::Undecided => line.word(b"undecided"),
-        Explanation::Refused(refusal) => line.word(b"refused:").number(wide(refusal.number())),
-        _ => line.number(wide(why.number())),
+// All of an answer.
+#[derive(Clone, Copy)]
+pub struct Told(pub Explained);
+
+impl fmt::Display for Reason {
+    fn fmt<W: fmt::Write>(&self, f: &mut fmt::Formatter<W>) -> fmt::Result {
+        match self.0 {
+            Explanation::Nothing => f.write_str("nothing"),
+            Explanation::Undecided => f.write_str("undecided"),
+            Explanation::Refused(refusal) => write!(f, "refused:{}", refusal.number()),
+            why => write!(f, "{}", why.number()),
+        }
     }
 }
 
-fn permission(line: Line, why: Explanation) -> Line {
-    match why {
-        Explanation::Scarce(permission) => line.number(wide(permission)),
-        _ => line.byte(b'-'),
+impl fmt::Display for Told {
+    fn fmt<W: fmt::Write>(&self, f: &mut fmt::Formatter<W>) -> fmt::Result {
+        let Explained { why, units } = self.0;
+        match why {
+            Explanation::Scarce(permission) => write!(f, "{} {permission} {units}", Reason(why)),
+            _ => write!(f, "{} - {units}", Reason(why)),
+        }
     }
-}
-
-// All of an answer, behind what the line has already.
-pub(crate) fn told(line: Line, explained: Explained) -> Line {
-    let why = explained.why;
-    permission(reason(line, why).byte(b' '), why)
-        .byte(b' ')
-        .number(wide(explained.units))
 }
 
 // How many may be away plays no part here.
-pub(crate) fn why(text: &[u8], at: usize) -> Line {
-    let asked = policy_at(text, next_word(text, at));
-    let explained = reasons::why(
-        accounts_at(text, at),
-        asked,
-        set_at(text, behind(text, at, b"absent")),
-        allowance_at(text, at),
-    );
-    told(Line::empty(), explained)
+pub(crate) fn why(alloc: Global, line: &str) -> Result<String, AllocError> {
+    let asked = Asked::read(line);
+    let explained = reasons::why(asked.accounts, asked.policy, asked.absent, asked.allowance);
+    format!(in alloc; "{}", Told(explained))
 }

@@ -1,171 +1,99 @@
-// What came, as text: a line that is written to standard output and held against what was wanted.
-use crate::words::{after, byte_at, part};
+// What came, as text: it is held against what was wanted.
 use roster::{Reply, Verdict};
-use std::io;
+use std::fmt;
 
-const WIDTH: usize = 512;
-
-// The first `length` bytes are the line.
+// A set: its rows, joined by commas; `-` for the empty one.
 #[derive(Clone, Copy)]
-pub struct Line {
-    bytes: [u8; WIDTH],
-    length: usize,
+pub struct Set(pub u64);
+
+// The crews up to the last that is not empty, joined by slashes.
+#[derive(Clone, Copy)]
+struct Crews([u64; 8]);
+
+// A verdict, with this mark before the number of a refusal.
+#[derive(Clone, Copy)]
+pub struct Judged(pub Verdict, pub char);
+
+// All of a reply: verdict, units, crews, blocker.
+#[derive(Clone, Copy)]
+pub struct Replied(pub Reply);
+
+// The same with sets as masks, all eight crews, and the sites, which are 0 here, before the blocker.
+#[derive(Clone, Copy)]
+pub struct Masks(pub Reply);
+
+impl fmt::Display for Set {
+    fn fmt<W: fmt::Write>(&self, f: &mut fmt::Formatter<W>) -> fmt::Result {
+        if self.0 == 0 {
+            return f.write_str("-");
+        }
+        let mut before = "";
+        for row in 0..64u32 {
+            if self.0 >> row & 1 == 1 {
+                write!(f, "{before}{row}")?;
+                before = ",";
+            }
+        }
+        Ok(())
+    }
 }
 
-// How many crews there are up to the last that is not empty.
-fn filled(crews: [u64; 8]) -> usize {
-    let mut count: usize = 0;
-    for i in 0..8 {
-        if crews[i] != 0 {
-            count = i + 1;
+impl fmt::Display for Crews {
+    fn fmt<W: fmt::Write>(&self, f: &mut fmt::Formatter<W>) -> fmt::Result {
+        let last = self.0.iter().rposition(|crew| *crew != 0).unwrap_or(0);
+        write!(f, "{}", Set(self.0[0]))?;
+        for crew in self.0.iter().skip(1).take(last) {
+            write!(f, "/{}", Set(*crew))?;
         }
+        Ok(())
     }
-    count
 }
 
-fn wide(n: u32) -> u64 {
-    n as u64
+impl fmt::Display for Judged {
+    fn fmt<W: fmt::Write>(&self, f: &mut fmt::Formatter<W>) -> fmt::Result {
+        match self.0 {
+            Verdict::Yes => f.write_str("yes"),
+            Verdict::No => f.write_str("no"),
+            Verdict::Undecided => f.write_str("undecided"),
+            Verdict::Crews => f.write_str("crews"),
+            Verdict::None => f.write_str("none"),
+            Verdict::Refused(refusal) => write!(f, "refused{}{}", self.1, refusal.number()),
+        }
+    }
 }
 
-impl Line {
-    pub(crate) fn empty() -> Line {
-        Line {
-            bytes: [0; WIDTH],
-            length: 0,
+impl fmt::Display for Replied {
+    fn fmt<W: fmt::Write>(&self, f: &mut fmt::Formatter<W>) -> fmt::Result {
+        let Reply {
+            verdict,
+            crews,
+            blocker,
+            units,
+        } = self.0;
+        write!(
+            f,
+            "{} {units} {} {}",
+            Judged(verdict, ' '),
+            Crews(crews),
+            Set(blocker)
+        )
+    }
+}
+
+impl fmt::Display for Masks {
+    fn fmt<W: fmt::Write>(&self, f: &mut fmt::Formatter<W>) -> fmt::Result {
+        let Reply {
+            verdict,
+            crews,
+            blocker,
+            units,
+        } = self.0;
+        write!(f, "{} {units}", Judged(verdict, ':'))?;
+        let mut before = ' ';
+        for crew in crews {
+            write!(f, "{before}{crew}")?;
+            before = ',';
         }
-    }
-
-    // One byte more; where there is no room left for it, none.
-    pub(crate) fn byte(self, value: u8) -> Line {
-        let mut bytes = self.bytes;
-        let length = self.length;
-        if length < WIDTH {
-            bytes[length] = value;
-            return Line {
-                bytes: bytes,
-                length: length + 1,
-            };
-        }
-        self
-    }
-
-    // A word or some.
-    pub(crate) fn word(self, word: &[u8]) -> Line {
-        let mut line = self;
-        for i in 0..64 {
-            if i < word.len() {
-                line = line.byte(word[i]);
-            }
-        }
-        line
-    }
-
-    pub(crate) fn number(self, n: u64) -> Line {
-        let mut digits = [0u8; 20];
-        let count = text::decimal(&mut digits, 0, n);
-        self.word(part(&digits, 0, count))
-    }
-
-    // The rows of a set, joined by commas.
-    fn rows(self, set: u64) -> Line {
-        let mut line = self;
-        let mut left = set;
-        let mut first = true;
-        for row in 0..64u64 {
-            if left % 2 == 1 {
-                if !first {
-                    line = line.byte(b',');
-                }
-                line = line.number(row);
-                first = false;
-            }
-            left = left / 2;
-        }
-        line
-    }
-
-    // A set; `-` for the empty one.
-    pub(crate) fn set(self, set: u64) -> Line {
-        if set == 0 {
-            return self.byte(b'-');
-        }
-        self.rows(set)
-    }
-
-    // The crews up to the last that is not empty, joined by slashes; `-` where all are empty.
-    fn crews(self, crews: [u64; 8]) -> Line {
-        let count = filled(crews);
-        let mut line = self.set(crews[0]);
-        for i in 1..8 {
-            if i < count {
-                line = line.byte(b'/').set(crews[i]);
-            }
-        }
-        line
-    }
-
-    pub(crate) fn verdict(self, verdict: Verdict) -> Line {
-        match verdict {
-            Verdict::Yes => self.word(b"yes"),
-            Verdict::No => self.word(b"no"),
-            Verdict::Undecided => self.word(b"undecided"),
-            Verdict::Crews => self.word(b"crews"),
-            Verdict::None => self.word(b"none"),
-            Verdict::Refused(refusal) => self.word(b"refused ").number(wide(refusal.number())),
-        }
-    }
-
-    // All of a reply: verdict, units, crews, blocker.
-    pub(crate) fn reply(self, reply: Reply) -> Line {
-        let verdict = reply.verdict;
-        let crews = reply.crews;
-        self.verdict(verdict)
-            .byte(b' ')
-            .number(wide(reply.units))
-            .byte(b' ')
-            .crews(crews)
-            .byte(b' ')
-            .set(reply.blocker)
-    }
-
-    // Whether the line that stands at this place of the text is this one.
-    pub(crate) fn is_at(self, text: &[u8], at: usize) -> bool {
-        let bytes = self.bytes;
-        let mut place = at;
-        for i in 0..WIDTH {
-            if i >= self.length {
-                return byte_at(text, place) == b'\n';
-            }
-            if byte_at(text, place) != bytes[i] {
-                return false;
-            }
-            place = after(place);
-        }
-        false
-    }
-
-    pub(crate) fn same(self, other: Line) -> bool {
-        let mine = self.bytes;
-        let others = other.bytes;
-        part(&mine, 0, self.length) == part(&others, 0, other.length)
-    }
-
-    // The line that stands at this place of the text.
-    pub(crate) fn copied(text: &[u8], at: usize) -> Line {
-        let mut line = Line::empty();
-        let mut place = at;
-        for _ in 0..WIDTH {
-            if byte_at(text, place) == b'\n' {
-                return line;
-            }
-            line = line.byte(byte_at(text, place));
-            place = after(place);
-        }
-        line
-    }
-
-    pub(crate) fn show(self, rt: &impl Print) -> io::Result<()> {
-        let bytes = self.bytes;
-        rt.write_all(part(&bytes, 0, self.length))
+        write!(f, " 0 {blocker}")
     }
 }

@@ -4,154 +4,108 @@
 //     policy skip|full P s d t EDITION 0 0 0 ALLOWANCE row...
 // Bit i of ABSENT is person i, and a row is HOLDINGS or HOLDINGS:PERSON; the zeros are not looked at. Lines that begin with `#` are passed over. An
 // answer is what explained.rt tells, or the verdict, the units, the eight crews, the sites, which are 0 here, and the blocker; sets are masks.
-use crate::asked::{held_at, nobody, with_rows};
-use crate::books::load;
+use crate::asked::{nobody, with_rows};
+use crate::books::{TEXT, text};
 use crate::cases::Outcome;
-use crate::explained::told;
-use crate::line::Line;
-use crate::words::{
-    WORDS, after, argument, behind, byte_at, is_word, line_end, narrow, next_word, part,
-    word_behind, word_end,
-};
+use crate::explained::Told;
+use crate::line::Masks;
+use crate::words::{around, narrow, numbers, word};
 use accounts::Accounts;
 use questions::Way;
-use roster::{Policy, Reply, Verdict};
+use roster::Policy;
+use std::alloc::{AllocError, Global};
 use std::rt::Files;
 
-// No file here has more lines.
-const LINES: usize = 1000;
-
-fn wide(n: u32) -> u64 {
-    n as u64
-}
-
-fn masks(line: Line, crews: [u64; 8]) -> Line {
-    let mut now = line.number(crews[0]);
-    for i in 1..8 {
-        now = now.byte(b',').number(crews[i]);
-    }
-    now
-}
-
-fn verdict(line: Line, verdict: Verdict) -> Line {
-    match verdict {
-        Verdict::Refused(refusal) => line.word(b"refused:").number(wide(refusal.number())),
-        _ => line.verdict(verdict),
-    }
-}
-
-// All of a reply, behind what the line has already.
-pub(crate) fn replied(line: Line, reply: Reply) -> Line {
-    let judged = reply.verdict;
-    let crews = reply.crews;
-    let counted = verdict(line, judged)
-        .byte(b' ')
-        .number(wide(reply.units))
-        .byte(b' ');
-    masks(counted, crews).word(b" 0 ").number(reply.blocker)
-}
-
-// The policy P s d t EDITION that stands here.
-pub(crate) fn policy_at(text: &[u8], at: usize) -> Policy {
+// The policy P s d t EDITION that stands from this word on.
+pub(crate) fn policy_at(line: &str, from: usize) -> Policy {
+    let [task, away, crews, size, edition] = numbers::<5>(line, from);
     Policy {
-        task: narrow(argument(text, at, 0)),
-        away: narrow(argument(text, at, 1)),
-        crews: argument(text, at, 2) as usize,
-        size: narrow(argument(text, at, 3)),
-        edition: narrow(argument(text, at, 4)),
-    }
-}
-
-// The policy P d t that stands here, of this edition. How many may be away plays no part for a named absence: it is a number here that is refused
-// where it does.
-pub(crate) fn named_at(text: &[u8], at: usize, edition: u64) -> Policy {
-    Policy {
-        task: narrow(argument(text, at, 0)),
-        away: 65,
-        crews: argument(text, at, 1) as usize,
-        size: narrow(argument(text, at, 2)),
+        task: narrow(task),
+        away: narrow(away),
+        crews: crews as usize,
+        size: narrow(size),
         edition: narrow(edition),
     }
 }
 
-// The rows that stand from here to the arrow.
-fn rows_at(text: &[u8], at: usize) -> Accounts {
+// The policy P d t that stands behind the first word, of this edition. How many may be away plays no part for a named absence: it is a number here that
+// is refused where it does.
+pub(crate) fn named_policy(line: &str, edition: u64) -> Policy {
+    let [task, crews, size] = numbers::<3>(line, 1);
+    Policy {
+        task: narrow(task),
+        away: 65,
+        crews: crews as usize,
+        size: narrow(size),
+        edition: narrow(edition),
+    }
+}
+
+// The rows that stand from this word on.
+fn rows_from(line: &str, from: usize) -> Accounts {
     let mut accounts = nobody();
-    let mut place = at;
-    for _ in 0..WORDS {
-        if is_word(text, place, b"->") {
-            return accounts;
-        }
-        accounts = with_rows(accounts, held_at(text, place, 1));
-        place = next_word(text, place);
+    for rows in line.split(' ').skip(from) {
+        accounts = with_rows(accounts, rows);
     }
     accounts
 }
 
-// What comes of a policy question.
-fn policy(line: Line, text: &[u8], at: usize) -> Line {
-    let accounts = rows_at(text, word_behind(text, at, 11));
-    let asked = policy_at(text, word_behind(text, at, 2));
-    let allowance = narrow(argument(text, at, 10));
-    if is_word(text, next_word(text, at), b"full") {
-        return replied(line, questions::ask(Way::Full, accounts, asked, allowance));
+pub(crate) fn way_of(word: &str) -> Way {
+    if word == "full" {
+        Way::Full
+    } else {
+        Way::Skipping
     }
-    replied(line, questions::ask(Way::Skipping, accounts, asked, allowance))
+}
+
+// What comes of a policy question.
+fn policy(alloc: Global, line: &str) -> Result<String, AllocError> {
+    let accounts = rows_from(line, 11);
+    let asked = policy_at(line, 2);
+    let [allowance] = numbers::<1>(line, 10);
+    let reply = questions::ask(way_of(word(line, 1)), accounts, asked, narrow(allowance));
+    format!(in alloc; "{}", Masks(reply))
 }
 
 // What comes of a question for a named absence, or of why it blocks.
-fn named(line: Line, text: &[u8], at: usize) -> Line {
-    let accounts = rows_at(text, word_behind(text, at, 9));
-    let asked = named_at(text, next_word(text, at), argument(text, at, 4));
-    let absent = argument(text, at, 5);
-    let allowance = narrow(argument(text, at, 8));
-    if is_word(text, at, b"why") {
-        return told(line, reasons::why(accounts, asked, absent, allowance));
+fn named(alloc: Global, line: &str) -> Result<String, AllocError> {
+    let accounts = rows_from(line, 9);
+    let [edition, absent, _, _, allowance] = numbers::<5>(line, 4);
+    let asked = named_policy(line, edition);
+    let allowance = narrow(allowance);
+    if word(line, 0) == "why" {
+        let explained = reasons::why(accounts, asked, absent, allowance);
+        return format!(in alloc; "{}", Told(explained));
     }
-    replied(
-        line,
-        questions::ask_named(accounts, asked, absent, allowance),
-    )
+    let reply = questions::ask_named(accounts, asked, absent, allowance);
+    format!(in alloc; "{}", Masks(reply))
 }
 
-// What comes of the question that stands here, behind what the line has already.
-fn answered(line: Line, text: &[u8], at: usize) -> Line {
-    if is_word(text, at, b"policy") {
-        return policy(line, text, at);
+// What comes of the question.
+fn answered(alloc: Global, line: &str) -> Result<String, AllocError> {
+    match word(line, 0) {
+        "policy" => policy(alloc, line),
+        "named" | "why" => named(alloc, line),
+        _ => String::from_str(alloc, "no such question"),
     }
-    if is_word(text, at, b"named") || is_word(text, at, b"why") {
-        return named(line, text, at);
-    }
-    line.word(b"no such question")
 }
 
-// The question that stands here, held against its answer.
-fn compared(outcome: Outcome, text: &[u8], at: usize) -> Outcome {
-    let same = answered(Line::empty(), text, at).is_at(text, behind(text, at, b"->"));
-    outcome.noted(
-        same,
-        answered(Line::copied(text, at).word(b" came "), text, at),
-    )
+// The question of this line, held against its answer.
+fn compared(alloc: Global, line: &str) -> Result<Outcome, AllocError> {
+    let (question, wanted) = around(line, " ->");
+    let came = answered(alloc, question)?;
+    let same = came.as_str() == wanted;
+    Ok(Outcome::one(same, format!(in alloc; "{line} came {came}")?))
 }
 
-fn all_of(text: &[u8]) -> Outcome {
+// Each question of the file with this name.
+pub(crate) fn all(rt: &impl Files, alloc: Global, name: &str) -> Result<Outcome, AllocError> {
+    let mut room = [0u8; TEXT];
     let mut outcome = Outcome::none();
-    let mut place: usize = 0;
-    for _ in 0..LINES {
-        if place >= text.len() {
-            return outcome;
+    for line in text(rt, name, &mut room).lines() {
+        if !line.starts_with('#') {
+            outcome.add(compared(alloc, line)?);
         }
-        if byte_at(text, place) != b'#' {
-            outcome = compared(outcome, text, place);
-        }
-        place = after(line_end(text, place));
     }
-    outcome
-}
-
-// Each question of the file with the name that stands here.
-pub(crate) fn all(rt: &impl Files, text: &[u8], at: usize) -> Outcome {
-    let mut room = [0u8; 65536];
-    let size = load(rt, part(text, at, word_end(text, at)), &mut room);
-    all_of(&room[..size])
+    Ok(outcome)
 }

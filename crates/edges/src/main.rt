@@ -20,16 +20,23 @@ mod words;
 
 use std::io;
 
+const CASES: [&str; 7] = [
+    "questions.cases",
+    "books.cases",
+    "parts.cases",
+    "sheets.cases",
+    "pages.cases",
+    "reasons.cases",
+    "editions.cases",
+];
+
 fn main(rt: HostRuntime) -> io::Result<()> {
-    cases::show_file(&rt, b"questions.cases")?;
-    cases::show_file(&rt, b"books.cases")?;
-    cases::show_file(&rt, b"parts.cases")?;
-    cases::show_file(&rt, b"sheets.cases")?;
-    cases::show_file(&rt, b"pages.cases")?;
-    cases::show_file(&rt, b"reasons.cases")?;
-    cases::show_file(&rt, b"editions.cases")?;
-    history::show_file(&rt, "a live roster, one history", b"roster-07.txt")?;
-    history::show_file(&rt, "a live roster at its edges", b"roster.history")?;
-    cases::show_file(&rt, b"planted.cases")?;
-    history::show_file(&rt, "planted lines of a history", b"planted.history")
+    let alloc = rt.alloc();
+    for file in CASES {
+        cases::show_file(&rt, alloc, file)?;
+    }
+    history::show_file(&rt, alloc, "a live roster, one history", "roster-07.txt")?;
+    history::show_file(&rt, alloc, "a live roster at its edges", "roster.history")?;
+    cases::show_file(&rt, alloc, "planted.cases")?;
+    history::show_file(&rt, alloc, "planted lines of a history", "planted.history")
 }

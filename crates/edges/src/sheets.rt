@@ -1,70 +1,63 @@
 // Printed sheets, whole: `sheet BOOK`, with `|` for each newline; `prints BOOK`, which is held against the file that is wanted; `short BOOK`, into a
 // buffer that is one byte too short.
-use crate::books::load;
-use crate::draft::{Draft, front};
-use crate::line::Line;
-use crate::words::{byte_at, part, word_end};
+use crate::books::{TEXT, load};
 use lines::Writing;
+use std::alloc::{AllocError, Global};
 use std::rt::Files;
 
+// As many bytes of a sheet as are told at most.
+const TOLD: usize = 512;
+
 // The front of a text as a line.
-fn on_one_line(text: &[u8], length: usize) -> Line {
-    let mut line = Line::empty();
-    for i in 0..512 {
-        if i < length {
-            line = line.byte(one_line(byte_at(text, i)));
-        }
+fn on_one_line(alloc: Global, text: &[u8]) -> Result<String, AllocError> {
+    let mut line = String::new(alloc);
+    for byte in text.iter().take(TOLD) {
+        line.push(if *byte == b'\n' {
+            '|'
+        } else {
+            char::from(*byte)
+        })?;
     }
-    line
+    Ok(line)
 }
 
-fn one_line(byte: u8) -> u8 {
-    if byte == b'\n' { b'|' } else { byte }
-}
-
-pub(crate) fn sheet(book: Draft) -> Line {
-    let bytes = book.bytes;
+pub(crate) fn sheet(alloc: Global, book: &[u8]) -> Result<String, AllocError> {
     let mut out = [0u8; lines::LONGEST];
-    match lines::sheet(front(&bytes, book.length), &mut out) {
-        Writing::Written(length) => on_one_line(&out, length),
-        Writing::TooShort => Line::empty().word(b"too short"),
+    match lines::sheet(book, &mut out) {
+        Writing::Written(length) => on_one_line(alloc, &out[..length.min(lines::LONGEST)]),
+        Writing::TooShort => String::from_str(alloc, "too short"),
     }
 }
 
 // Whether the first bytes of what was printed are the text, and all of it.
-fn printed(book: Draft, wanted: &[u8]) -> bool {
-    let bytes = book.bytes;
+fn printed(book: &[u8], wanted: &[u8]) -> bool {
     let mut out = [0u8; lines::LONGEST];
-    match lines::sheet(front(&bytes, book.length), &mut out) {
-        Writing::Written(length) => part(&out, 0, length) == wanted,
+    match lines::sheet(book, &mut out) {
+        Writing::Written(length) => &out[..length.min(lines::LONGEST)] == wanted,
         Writing::TooShort => false,
     }
 }
 
 // The name of the file whose text is wanted, if the book prints just that; else the front of what it prints.
-pub(crate) fn prints(rt: &impl Files, text: &[u8], wanted: usize, book: Draft) -> Line {
-    let mut room = [0u8; 65536];
-    let size = load(rt, part(text, wanted, word_end(text, wanted)), &mut room);
+pub(crate) fn prints(
+    rt: &impl Files,
+    alloc: Global,
+    wanted: &str,
+    book: &[u8],
+) -> Result<String, AllocError> {
+    let mut room = [0u8; TEXT];
+    let size = load(rt, wanted, &mut room);
     if printed(book, &room[..size]) {
-        return Line::copied(text, wanted);
+        return String::from_str(alloc, wanted);
     }
-    sheet(book)
+    sheet(alloc, book)
 }
 
 // What is told of a buffer that is one byte too short, and of its first and last byte, which were 7.
-pub(crate) fn short(book: Draft) -> Line {
-    let bytes = book.bytes;
+pub(crate) fn short(alloc: Global, book: &[u8]) -> Result<String, AllocError> {
     let mut out = [7u8; 23231];
-    match lines::sheet(front(&bytes, book.length), &mut out) {
-        Writing::Written(_) => Line::empty().word(b"written"),
-        Writing::TooShort => Line::empty()
-            .word(b"too short ")
-            .number(wide(out[0]))
-            .byte(b' ')
-            .number(wide(out[23230])),
+    match lines::sheet(book, &mut out) {
+        Writing::Written(_) => String::from_str(alloc, "written"),
+        Writing::TooShort => format!(in alloc; "too short {} {}", out[0], out[23230]),
     }
-}
-
-fn wide(byte: u8) -> u64 {
-    byte as u64
 }

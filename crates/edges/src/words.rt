@@ -1,163 +1,40 @@
 // The text of the cases: lines of words, with one space between two words.
 
-// No line here is longer, none has more words, and no number more digits.
-const LINE: usize = 1000;
-
-pub const WORDS: usize = 100;
-
-const DIGITS: usize = 20;
-
-// A number, and the place behind it.
-#[derive(Clone, Copy)]
-pub struct Number {
-    pub value: u64,
-    pub next: usize,
+// The first word of a line, and what stands behind it.
+pub(crate) fn first_word(line: &str) -> (&str, &str) {
+    line.split_once(' ').unwrap_or((line, ""))
 }
 
-// One more. No text here comes near a million bytes.
-pub(crate) fn after(n: usize) -> usize {
-    if n < 1000000 { n + 1 } else { n }
+// The word with this index; empty where the line has none.
+pub(crate) fn word(line: &str, at: usize) -> &str {
+    line.split(' ').nth(at).unwrap_or("")
 }
 
-// The byte at this place. Past the end the last line is taken to end.
-pub(crate) fn byte_at(text: &[u8], at: usize) -> u8 {
-    if at < text.len() { text[at] } else { b'\n' }
+// What stands before a mark that is a word of the line, and behind it; the whole line, and nothing, where it has no such word.
+pub(crate) fn around<'a>(line: &'a str, mark: &str) -> (&'a str, &'a str) {
+    let (before, behind) = line.split_once(mark).unwrap_or((line, ""));
+    (before, behind.strip_prefix(' ').unwrap_or(behind))
 }
 
-// The text from one place to another; all of it where there is no such part.
-pub(crate) fn part(text: &[u8], from: usize, to: usize) -> &[u8] {
-    if to <= text.len() {
-        if from <= to {
-            return &text[from..to];
-        }
+// The number; 0 where it is none.
+pub(crate) fn number(text: &str) -> u64 {
+    text.parse().unwrap_or(0)
+}
+
+// The numbers that are words of the line, from the one with this index on.
+pub(crate) fn numbers<const N: usize>(line: &str, from: usize) -> [u64; N] {
+    let mut numbers = [0; N];
+    for (place, word) in numbers.iter_mut().zip(line.split(' ').skip(from)) {
+        *place = number(word);
     }
-    text
-}
-
-fn ends_word(byte: u8) -> bool {
-    byte == b' ' || byte == b'\n'
-}
-
-// Where the word that stands here ends.
-pub(crate) fn word_end(text: &[u8], at: usize) -> usize {
-    let mut place = at;
-    for _ in 0..LINE {
-        if ends_word(byte_at(text, place)) {
-            return place;
-        }
-        place = after(place);
-    }
-    place
-}
-
-// Where the line ends.
-pub(crate) fn line_end(text: &[u8], at: usize) -> usize {
-    let mut place = at;
-    for _ in 0..LINE {
-        if byte_at(text, place) == b'\n' {
-            return place;
-        }
-        place = after(place);
-    }
-    place
-}
-
-// Where the next word of the line starts; the line's end where there is none.
-pub(crate) fn next_word(text: &[u8], at: usize) -> usize {
-    let end = word_end(text, at);
-    if byte_at(text, end) == b' ' {
-        after(end)
-    } else {
-        end
-    }
-}
-
-// Whether this word stands here.
-pub(crate) fn is_word(text: &[u8], at: usize, word: &[u8]) -> bool {
-    let mut place = at;
-    for i in 0..16 {
-        if i >= word.len() {
-            return ends_word(byte_at(text, place));
-        }
-        if byte_at(text, place) != word[i] {
-            return false;
-        }
-        place = after(place);
-    }
-    false
-}
-
-// The place behind this word, from here on in the line; the line's end where it does not stand there.
-pub(crate) fn behind(text: &[u8], at: usize, word: &[u8]) -> usize {
-    let mut place = at;
-    for _ in 0..WORDS {
-        if is_word(text, place, word) {
-            return next_word(text, place);
-        }
-        place = next_word(text, place);
-    }
-    place
-}
-
-// The place of the word that is so many behind this one.
-pub(crate) fn word_behind(text: &[u8], at: usize, which: usize) -> usize {
-    let mut place = at;
-    for i in 0..WORDS {
-        if i >= which {
-            return place;
-        }
-        place = next_word(text, place);
-    }
-    place
-}
-
-fn is_digit(byte: u8) -> bool {
-    byte >= b'0' && byte <= b'9'
-}
-
-// The number with this digit behind it.
-fn with_digit(n: u64, byte: u8) -> u64 {
-    let two = std::num::wrapping_add_u64(n, n);
-    let four = std::num::wrapping_add_u64(two, two);
-    let ten = std::num::wrapping_add_u64(std::num::wrapping_add_u64(four, four), two);
-    std::num::wrapping_add_u64(ten, wide(std::num::wrapping_sub_u8(byte, b'0')))
-}
-
-fn wide(byte: u8) -> u64 {
-    byte as u64
-}
-
-// The number that stands here: 0, and no further, where there is none.
-pub(crate) fn number_at(text: &[u8], at: usize) -> Number {
-    let mut value: u64 = 0;
-    let mut next = at;
-    for _ in 0..DIGITS {
-        let byte = byte_at(text, next);
-        if !is_digit(byte) {
-            return Number {
-                value: value,
-                next: next,
-            };
-        }
-        value = with_digit(value, byte);
-        next = after(next);
-    }
-    Number {
-        value: value,
-        next: next,
-    }
-}
-
-// The number that is the first, second, .. word behind this one.
-pub(crate) fn argument(text: &[u8], at: usize, which: usize) -> u64 {
-    number_at(text, word_behind(text, at, which)).value
+    numbers
 }
 
 // A number as a smaller type; the largest of it where it is past that.
 pub(crate) fn narrow(n: u64) -> u32 {
-    if n < 4294967295 { n as u32 } else { 4294967295 }
+    u32::try_from(n).unwrap_or(u32::MAX)
 }
 
 pub(crate) fn byte_of(n: u64) -> u8 {
-    if n < 255 { n as u8 } else { 255 }
+    u8::try_from(n).unwrap_or(u8::MAX)
 }

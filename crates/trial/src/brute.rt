@@ -1,81 +1,54 @@
 // The decision by trying everything: an absence blocks if no way of putting each present row into one of the crews, or into none, makes every
 // crew good.
-use crate::plain::{CREWS, Duty, PERMISSIONS, ROWS, after};
+use crate::plain::{Duty, PERMISSIONS, ROWS};
 
-// Where each row is: 0 in no crew, c in the crew numbered c, from 1. `over` says that the last way has been tried.
+// Where each row is: 0 in no crew, c in the crew numbered c, from 1.
 #[derive(Clone, Copy)]
-struct Ways {
+struct Way {
     place: [usize; ROWS],
-    over: bool,
 }
 
-impl Ways {
-    // The next way, counting up with a digit for each present row.
-    fn next(self, duty: Duty, absent: [bool; ROWS]) -> Ways {
-        let mut place = self.place;
-        for row in 0..ROWS {
+impl Way {
+    // The next way, counting up with a digit for each present row; none where this was the last.
+    fn next(mut self, duty: &Duty, absent: &[bool; ROWS]) -> Option<Way> {
+        for (row, place) in self.place.iter_mut().enumerate() {
             if row < duty.rows && !absent[row] {
-                if place[row] < duty.crews {
-                    place[row] = after(place[row]);
-                    return Ways {
-                        place: place,
-                        over: false,
-                    };
+                if *place < duty.crews {
+                    *place += 1;
+                    return Some(self);
                 }
-                place[row] = 0;
+                *place = 0;
             }
         }
-        Ways {
-            place: place,
-            over: true,
-        }
+        None
     }
 
-    fn members(self, crew: usize) -> usize {
-        let mut n: usize = 0;
-        for row in 0..ROWS {
-            if self.place[row] == crew {
-                n = after(n);
-            }
-        }
-        n
+    fn members(&self, crew: usize) -> usize {
+        self.place.iter().filter(|place| **place == crew).count()
     }
 
     // Whether a member of the crew holds permission p.
-    fn held(self, duty: Duty, crew: usize, p: usize) -> bool {
-        for row in 0..ROWS {
-            if self.place[row] == crew && duty.holds(row, p) {
-                return true;
-            }
-        }
-        false
+    fn held(&self, duty: &Duty, crew: usize, p: usize) -> bool {
+        self.place
+            .iter()
+            .enumerate()
+            .any(|(row, place)| *place == crew && duty.holds(row, p))
     }
 
     // Whether the crew holds the whole task.
-    fn covers(self, duty: Duty, crew: usize) -> bool {
-        for p in 0..PERMISSIONS {
-            if duty.wants(p) && !self.held(duty, crew, p) {
-                return false;
-            }
-        }
-        true
+    fn covers(&self, duty: &Duty, crew: usize) -> bool {
+        (0..PERMISSIONS).all(|p| !duty.wants(p) || self.held(duty, crew, p))
     }
 
     // Whether the crew has as many members as it may and has to have.
-    fn fits(self, duty: Duty, crew: usize) -> bool {
+    fn fits(&self, duty: &Duty, crew: usize) -> bool {
         let members = self.members(crew);
         members <= duty.size && members >= duty.least()
     }
 
     // Whether each crew is within the sizes and covers the task. Crews are disjoint since a row is in one place.
-    fn good(self, duty: Duty) -> bool {
-        for c in 0..CREWS {
-            let crew = c + 1;
-            if crew <= duty.crews && (!self.fits(duty, crew) || !self.covers(duty, crew)) {
-                return false;
-            }
-        }
-        true
+    fn is_good(&self, duty: &Duty) -> bool {
+        (1..=duty.crews).all(|crew| self.fits(duty, crew) && self.covers(duty, crew))
     }
 }
 
@@ -83,19 +56,16 @@ impl Ways {
 const WAYS: usize = 15625;
 
 // Whether no crew list exists with these rows absent: each way is looked at.
-pub(crate) fn blocks(duty: Duty, absent: [bool; ROWS]) -> bool {
-    let mut ways = Ways {
-        place: [0; ROWS],
-        over: false,
-    };
+pub(crate) fn blocks(duty: &Duty, absent: &[bool; ROWS]) -> bool {
+    let mut way = Way { place: [0; ROWS] };
     for _ in 0..WAYS {
-        if ways.good(duty) {
+        if way.is_good(duty) {
             return false;
         }
-        ways = ways.next(duty, absent);
-        if ways.over {
+        let Some(next) = way.next(duty, absent) else {
             return true;
-        }
+        };
+        way = next;
     }
     true
 }

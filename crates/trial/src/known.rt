@@ -1,11 +1,10 @@
 // What is known of every set of rows as an absence, and from that what a reply has to be. Blocking is known by trying everything; need and
 // crews by the plain rules of filling and of the order of absences.
-ghost use Rattle.std.specs.Prelude.{◌≤◌};
-
-use crate::filling::{Filled, Placed};
+use crate::filling::{Filled, Placed, Rule};
 use crate::order::Ranks;
-use crate::plain::{Duty, ROWS, after};
+use crate::plain::{Duty, ROWS, digits};
 use crate::{brute, order};
+use std::fmt;
 
 // Six rows have 64 sets. A set's number has the digit 1, in base 2, for each of its rows.
 pub const SETS: usize = 64;
@@ -13,79 +12,92 @@ pub const SETS: usize = 64;
 // Crews of a reply.
 pub const LISTED: usize = 8;
 
-// Of a set as an absence: how many rows it has, whether it blocks, whether filling found a list and after how many placements, whether it is worth
-// trying.
+// Of a set as an absence: its place in the order of absences, whether it blocks, whether filling found a list and after how many placements, whether it
+// is worth trying.
 #[derive(Clone, Copy)]
 pub struct Fact {
-    pub size: usize,
+    pub absence: Ranks,
     pub blocks: bool,
     pub found: bool,
     pub units: u32,
     pub worth: bool,
 }
 
-// The facts by the sets' numbers, and the numbers in the order of absences.
+// What is taken for the facts of a set that is not there.
+const NOTHING: Fact = Fact {
+    absence: order::NOBODY,
+    blocks: false,
+    found: false,
+    units: 0,
+    worth: false,
+};
+
+// A duty, how many sets its rows have, the facts by the sets' numbers, and the same in the order of absences.
 #[derive(Clone, Copy)]
 pub struct Known {
+    pub duty: Duty,
     pub sets: usize,
     pub facts: [Fact; SETS],
-    pub order: [usize; SETS],
+    pub in_order: [Fact; SETS],
 }
 
-// What a reply has to be. The verdict is its code. An explanation's is that of its reason, and its blocker the permission that is scarce, as a set.
-#[derive(Clone, Copy)]
+// What is answered: the verdict of a reply, or of an explanation its reason.
+#[derive(Clone, Copy, PartialEq, Eq)]
+pub enum Answer {
+    Yes,
+    No,
+    Undecided,
+    Crews,
+    None,
+    Refused,
+    Scarce,
+    NoCrew,
+    Overlap,
+    NothingToExplain,
+}
+
+pub const ANSWERS: [Answer; 10] = [
+    Answer::Yes,
+    Answer::No,
+    Answer::Undecided,
+    Answer::Crews,
+    Answer::None,
+    Answer::Refused,
+    Answer::Scarce,
+    Answer::NoCrew,
+    Answer::Overlap,
+    Answer::NothingToExplain,
+];
+
+impl fmt::Display for Answer {
+    fn fmt<W: fmt::Write>(&self, f: &mut fmt::Formatter<W>) -> fmt::Result {
+        f.write_str(match self {
+            Answer::Yes => "yes",
+            Answer::No => "no",
+            Answer::Undecided => "undecided",
+            Answer::Crews => "crews",
+            Answer::None => "none",
+            Answer::Refused => "refused",
+            Answer::Scarce => "reason 1",
+            Answer::NoCrew => "reason 2",
+            Answer::Overlap => "reason 3",
+            Answer::NothingToExplain => "nothing to explain",
+        })
+    }
+}
+
+// What a reply has to be. An explanation's blocker is the permission that is scarce, as a set.
+#[derive(Clone, Copy, PartialEq, Eq)]
 pub struct Wanted {
-    pub verdict: usize,
+    pub answer: Answer,
     pub crews: [u64; LISTED],
     pub blocker: u64,
     pub units: u32,
 }
 
-// The codes of verdicts.
-pub const YES: usize = 0;
-
-pub const NO: usize = 1;
-
-pub const UNDECIDED: usize = 2;
-
-pub const CREWS: usize = 3;
-
-pub const NONE: usize = 4;
-
-pub const REFUSED: usize = 5;
-
-pub const SCARCE: usize = 6;
-
-pub const NO_CREW: usize = 7;
-
-pub const OVERLAP: usize = 8;
-
-pub const NOTHING_TO_EXPLAIN: usize = 9;
-
-// How many sets so many rows have.
-pub(crate) fn sets_of(rows: usize) -> usize
-    ensures { result ≤ 64 }
-{
-    match rows {
-        0 => 1,
-        1 => 2,
-        2 => 4,
-        3 => 8,
-        4 => 16,
-        5 => 32,
-        _ => 64,
-    }
-}
-
 // The set with this number.
 pub(crate) fn set_of(number: usize) -> [bool; ROWS] {
-    let mut set = [false; ROWS];
-    let mut left = number;
-    for row in 0..ROWS {
-        set[row] = left % 2 == 1;
-        left = left / 2;
-    }
-    set
+    digits(number as u64)
 }
 
 // The row as a set of the libraries, which has bit i for row i.
@@ -94,161 +106,91 @@ fn one(row: usize) -> u64 {
 }
 
 // The set as one of the libraries.
-pub(crate) fn mask_of(set: [bool; ROWS]) -> u64 {
-    let mut mask: u64 = 0;
-    for row in 0..ROWS {
-        if set[row] {
-            mask = mask | one(row);
-        }
-    }
-    mask
-}
-
-// The crew as a set of the libraries.
-fn crew_mask(placed: Placed, crew: usize) -> u64 {
-    let mut mask: u64 = 0;
-    for k in 0..ROWS {
-        if placed.in_crew(k, crew) {
-            mask = mask | one(placed.row_at(k));
+pub(crate) fn mask_of(set: &[bool; ROWS]) -> u64 {
+    let mut mask = 0;
+    for (row, is_in) in set.iter().enumerate() {
+        if *is_in {
+            mask |= one(row);
         }
     }
     mask
 }
 
 // The crews of a reply.
-pub(crate) fn crews_of(placed: Placed) -> [u64; LISTED] {
-    let mut crews = [0u64; LISTED];
-    for crew in 0..LISTED {
-        crews[crew] = crew_mask(placed, crew);
+pub(crate) fn crews_of(placed: &Placed) -> [u64; LISTED] {
+    let mut crews = [0; LISTED];
+    for placement in placed.made() {
+        if let Some(crew) = crews.get_mut(placement.crew) {
+            *crew |= one(placement.row);
+        }
     }
     crews
 }
 
-// The ranks of the set with this number.
-fn list_of(ranks: [usize; ROWS], rows: usize, number: usize) -> Ranks {
-    order::ranks_of(ranks, rows, set_of(number))
-}
-
-// How many absences come before the one with this number.
-fn place_of(ranks: [usize; ROWS], rows: usize, number: usize) -> usize {
-    let list = list_of(ranks, rows, number);
-    let sets = sets_of(rows);
-    let mut place: usize = 0;
-    for other in 0..sets {
-        if list_of(ranks, rows, other).earlier(list) {
-            place = after(place);
-        }
-    }
-    place
-}
-
-// The numbers in the order of absences.
-fn order_of(ranks: [usize; ROWS], rows: usize) -> [usize; SETS] {
-    let mut order = [0usize; SETS];
-    let sets = sets_of(rows);
-    for number in 0..sets {
-        let place = place_of(ranks, rows, number);
-        if place < SETS {
-            order[place] = number;
-        }
-    }
-    order
-}
-
-fn fact_of(duty: Duty, ranks: [usize; ROWS], number: usize) -> Fact {
+fn fact_of(duty: &Duty, ranks: &[usize; ROWS], number: usize) -> Fact {
     let absent = set_of(number);
-    let filled = duty.fill(absent);
+    let filled = duty.fill(Rule::Ordered, &absent);
     Fact {
-        size: order::ranks_of(ranks, duty.rows, absent).count,
-        blocks: brute::blocks(duty, absent),
-        found: filled.found && !filled.lost,
+        absence: order::ranks_of(ranks, duty.rows, &absent),
+        blocks: brute::blocks(duty, &absent),
+        found: filled.list.is_some(),
         units: filled.units,
-        worth: duty.worth(absent),
+        worth: duty.worth(&absent),
     }
 }
-
-// What is taken for the facts of a set that is not there.
-const NOTHING: Fact = Fact {
-    size: SETS,
-    blocks: false,
-    found: false,
-    units: 0,
-    worth: false,
-};
 
 // All that is known for this duty.
 pub(crate) fn known_of(duty: Duty) -> Known {
     let ranks = duty.ranks();
-    let sets = sets_of(duty.rows);
+    let sets = 1usize << duty.rows.min(ROWS);
     let mut facts = [NOTHING; SETS];
-    for number in 0..sets {
-        facts[number] = fact_of(duty, ranks, number);
+    for (number, fact) in facts.iter_mut().enumerate().take(sets) {
+        *fact = fact_of(&duty, &ranks, number);
     }
+    let mut in_order = facts;
+    in_order.sort_unstable_by_key(|fact| fact.absence);
     Known {
-        sets: sets,
-        facts: facts,
-        order: order_of(ranks, duty.rows),
+        duty,
+        sets,
+        facts,
+        in_order,
     }
 }
 
 impl Fact {
     // Whether the search tries it, with so many away.
-    fn is_tried(self, skipping: bool, away: usize) -> bool {
-        self.size <= away && (!skipping || self.worth)
+    fn is_tried(&self, skipping: bool, away: usize) -> bool {
+        self.absence.size <= away && (!skipping || self.worth)
     }
 }
 
 impl Known {
     // The facts of the set with this number.
-    pub(crate) fn fact(self, number: usize) -> Fact {
-        if number < SETS {
-            return self.facts[number];
-        }
-        NOTHING
+    pub(crate) fn fact(&self, number: usize) -> Fact {
+        self.facts.get(number).copied().unwrap_or(NOTHING)
     }
 
     // Whether the set with this number blocks, of at most `away` rows.
-    fn is_blocker(self, number: usize, away: usize) -> bool {
+    fn is_blocker(&self, number: usize, away: usize) -> bool {
         let fact = self.fact(number);
-        number < self.sets && fact.size <= away && fact.blocks
+        fact.absence.size <= away && fact.blocks
     }
 
-    // The number of the first absence of at most `away` rows that blocks, the earliest of all that do; SETS where none does.
-    pub(crate) fn first_blocker(self, duty: Duty, away: usize) -> usize {
-        let ranks = duty.ranks();
-        let rows = duty.rows;
-        let mut best: usize = SETS;
-        for number in 0..SETS {
-            if self.is_blocker(number, away) {
-                if best == SETS
-                    || list_of(ranks, rows, number).earlier(list_of(ranks, rows, best))
-                {
-                    best = number;
-                }
-            }
-        }
-        best
-    }
-
-    // The facts of the set at this place of the order.
-    fn fact_at(self, place: usize) -> Fact {
-        if place < SETS {
-            if place < self.sets {
-                return self.fact(self.order[place]);
-            }
-        }
-        NOTHING
+    // The number of the first absence of at most `away` rows that blocks, the earliest of all that do.
+    fn first_blocker(&self, away: usize) -> Option<usize> {
+        (0..self.sets)
+            .filter(|&number| self.is_blocker(number, away))
+            .min_by_key(|&number| self.fact(number).absence)
     }
 
     // The need of the policy question: the units of the absences tried, up to and including the first that blocks.
-    pub(crate) fn need(self, skipping: bool, away: usize) -> u32 {
+    fn need(&self, skipping: bool, away: usize) -> u32 {
         let mut need: u32 = 0;
-        for place in 0..SETS {
-            let fact = self.fact_at(place);
+        for fact in &self.in_order {
             if fact.is_tried(skipping, away) {
-                need = std::num::wrapping_add_u32(need, std::num::wrapping_add_u32(1, fact.units));
+                need = need.wrapping_add(1).wrapping_add(fact.units);
                 if !fact.found {
-                    return need;
+                    break;
                 }
             }
         }
@@ -256,91 +198,68 @@ impl Known {
     }
 
     // What a policy question has to reply.
-    pub(crate) fn policy_reply(self, duty: Duty, skipping: bool, away: usize) -> Wanted {
+    pub(crate) fn policy_reply(&self, skipping: bool, away: usize) -> Wanted {
         let need = self.need(skipping, away);
-        let blocker = self.first_blocker(duty, away);
-        if blocker < SETS {
+        if let Some(blocker) = self.first_blocker(away) {
             return Wanted {
-                verdict: NO,
-                crews: [0; LISTED],
-                blocker: mask_of(set_of(blocker)),
-                units: need,
+                blocker: mask_of(&set_of(blocker)),
+                ..Wanted::bare(Answer::No, need)
             };
         }
-        Wanted {
-            verdict: YES,
-            crews: crews_of(duty.fill([false; ROWS]).placed),
-            blocker: 0,
-            units: need,
+        let filled = self.duty.fill(Rule::Ordered, &[false; ROWS]);
+        Wanted::listing(Answer::Yes, filled.list, need)
+    }
+
+    // What a question for the absence with this number has to reply by the rule.
+    pub(crate) fn named_reply(&self, number: usize, rule: Rule) -> Wanted {
+        let Filled { list, units } = self.duty.fill(rule, &set_of(number));
+        // whether there is a list is by trying everything, which by filling
+        if self.fact(number).blocks {
+            return Wanted::bare(Answer::None, units);
         }
-    }
-}
-
-// The set of the one row just past these, which no table of so many rows has.
-pub(crate) fn past(rows: usize) -> u64 {
-    if rows < 64 { 1u64 << rows } else { 0 }
-}
-
-// What a question that is refused has to reply.
-pub(crate) fn refused() -> Wanted {
-    Wanted {
-        verdict: REFUSED,
-        crews: [0; LISTED],
-        blocker: 0,
-        units: 0,
-    }
-}
-
-// What a question for the absence with this number has to reply.
-pub(crate) fn named_reply(known: Known, duty: Duty, number: usize) -> Wanted {
-    filled_reply(known, number, duty.fill(set_of(number)))
-}
-
-// What it had to reply by the rule before.
-pub(crate) fn unordered_reply(known: Known, duty: Duty, number: usize) -> Wanted {
-    filled_reply(known, number, duty.fill_unordered(set_of(number)))
-}
-
-// Whether there is a list is by trying everything, which by filling.
-fn filled_reply(known: Known, number: usize, filled: Filled) -> Wanted {
-    if known.fact(number).blocks {
-        return Wanted {
-            verdict: NONE,
-            crews: [0; LISTED],
-            blocker: 0,
-            units: filled.units,
-        };
-    }
-    Wanted {
-        verdict: CREWS,
-        crews: crews_of(filled.placed),
-        blocker: 0,
-        units: filled.units,
+        Wanted::listing(Answer::Crews, list, units)
     }
 }
 
 impl Wanted {
-    // The same with another verdict.
-    pub(crate) fn but(self, verdict: usize) -> Wanted {
-        let crews = self.crews;
+    // With no crews and no blocker.
+    pub(crate) fn bare(answer: Answer, units: u32) -> Wanted {
         Wanted {
-            verdict: verdict,
-            crews: crews,
-            blocker: self.blocker,
-            units: self.units,
+            answer,
+            crews: [0; LISTED],
+            blocker: 0,
+            units,
         }
     }
 
-    // What has to be replied within an allowance.
-    pub(crate) fn within(self, allowance: u32) -> Wanted {
-        if allowance < self.units {
-            return Wanted {
-                verdict: UNDECIDED,
-                crews: [0; LISTED],
-                blocker: 0,
-                units: allowance,
-            };
+    // With the crews of this list.
+    fn listing(answer: Answer, list: Option<Placed>, units: u32) -> Wanted {
+        let bare = Wanted::bare(answer, units);
+        match list {
+            Some(placed) => Wanted {
+                crews: crews_of(&placed),
+                ..bare
+            },
+            None => bare,
         }
-        self
+    }
+
+    // What a question that is refused has to reply.
+    pub(crate) fn refused() -> Wanted {
+        Wanted::bare(Answer::Refused, 0)
+    }
+
+    // Whether all but the units is the same.
+    pub(crate) fn is_alike(&self, other: &Wanted) -> bool {
+        let units = other.units;
+        Wanted { units, ..*self } == *other
+    }
+
+    // What has to be replied within an allowance.
+    pub(crate) fn within(&self, allowance: u32) -> Wanted {
+        if allowance < self.units {
+            return Wanted::bare(Answer::Undecided, allowance);
+        }
+        *self
     }
 }

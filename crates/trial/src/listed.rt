@@ -1,243 +1,124 @@
 // The live roster by the rules, plainly: 64 places, at each nobody or somebody with a number, and who holds which permission as a grid of truths.
 // What somebody held who is gone stands in the grid until the place is taken again; it is nobody's.
 
+ghost use Rattle.std.specs.Prelude.{◌<◌, IfSome};
+
 pub const PLACES: usize = 64;
 
 pub const PERMISSIONS: usize = 32;
 
-// 64 places of 32 cells.
-const CELLS: usize = 2048;
+// Who is at a place, and what whoever took it last holds.
+#[derive(Clone, Copy)]
+pub struct Place {
+    staff: Option<u32>,
+    cells: [bool; PERMISSIONS],
+}
 
 #[derive(Clone, Copy)]
 pub struct Listed {
-    pub here: [bool; PLACES],
-    pub number: [u32; PLACES],
-    pub cells: [bool; CELLS],
+    places: [Place; PLACES],
 }
 
-// What is called: 0 hire, 1 leave, 2 grant, 3 revoke. The permission counts for the last two.
+// What is called: with a staff number, and with the permission.
 #[derive(Clone, Copy)]
-pub struct Call {
-    pub kind: usize,
-    pub number: u32,
-    pub permission: u32,
+pub enum Call {
+    Hire(u32),
+    Leave(u32),
+    Grant(u32, u32),
+    Revoke(u32, u32),
 }
 
-pub const HIRE: usize = 0;
+impl Place {
+    const FREE: Place = Place {
+        staff: None,
+        cells: [false; PERMISSIONS],
+    };
 
-pub const LEAVE: usize = 1;
+    pub(crate) fn is_taken(&self) -> bool {
+        self.staff.is_some()
+    }
 
-pub const GRANT: usize = 2;
+    // Who is there; 0 where nobody is.
+    pub(crate) fn number(&self) -> u32 {
+        self.staff.unwrap_or(0)
+    }
 
-// The list after a call, and what is answered: the place, or, unless it is 0, the number of the refusal.
-#[derive(Clone, Copy)]
-pub struct Answer {
-    pub list: Listed,
-    pub place: usize,
-    pub refused: u32,
-}
-
-pub(crate) fn nobody() -> Listed {
-    Listed {
-        here: [false; PLACES],
-        number: [0; PLACES],
-        cells: [false; CELLS],
+    // Whether whoever is here holds permission p.
+    pub(crate) fn holds(&self, p: usize) -> bool {
+        self.is_taken() && p < PERMISSIONS && self.cells[p]
     }
 }
 
 impl Listed {
-    // Whether somebody is at the place.
-    pub(crate) fn is_taken(self, place: usize) -> bool {
-        if place >= PLACES {
-            return false;
-        }
-        self.here[place]
-    }
-
-    // Who is there; 0 where nobody is.
-    pub(crate) fn number_at(self, place: usize) -> u32 {
-        if place >= PLACES {
-            return 0;
-        }
-        if self.here[place] {
-            self.number[place]
-        } else {
-            0
+    pub(crate) fn nobody() -> Listed {
+        Listed {
+            places: [Place::FREE; PLACES],
         }
     }
 
-    // Whether whoever is at the place holds permission p.
-    pub(crate) fn holds(self, place: usize, p: usize) -> bool {
-        if place >= PLACES {
-            return false;
-        }
-        if p >= PERMISSIONS {
-            return false;
-        }
-        self.here[place] && self.cells[place * PERMISSIONS + p]
+    pub(crate) fn places(&self) -> &[Place; PLACES] {
+        &self.places
     }
 
-    // What whoever is at the place holds.
-    pub(crate) fn held_at(self, place: usize) -> [bool; PERMISSIONS] {
-        let mut held = [false; PERMISSIONS];
-        for p in 0..PERMISSIONS {
-            if place < PLACES {
-                held[p] = self.here[place] && self.cells[place * PERMISSIONS + p];
-            }
-        }
-        held
-    }
-
-    // Where the number stands; past the last place where it does not.
-    fn place_of(self, number: u32) -> usize {
-        for place in 0..PLACES {
-            if self.here[place] && self.number[place] == number {
-                return place;
-            }
-        }
-        PLACES
-    }
-
-    // The first place that nobody has; past the last where each is taken.
-    fn free(self) -> usize {
-        for place in 0..PLACES {
-            if !self.here[place] {
-                return place;
-            }
-        }
-        PLACES
+    // Where the number stands.
+    fn place_of(&self, number: u32) -> Option<usize>
+        ensures { IfSome result (λ at. at < 64) }
+    {
+        self.places
+            .iter()
+            .position(|place| place.staff == Some(number))
     }
 
     // How many are there.
-    pub(crate) fn count(self) -> usize {
-        let mut n: usize = 0;
-        for place in 0..PLACES {
-            if self.here[place] {
-                n = std::num::wrapping_add_usize(n, 1);
-            }
-        }
-        n
+    pub(crate) fn count(&self) -> usize {
+        self.places.iter().filter(|place| place.is_taken()).count()
     }
 
-    // The place of the first, second, .. who is there, counted from 0; past the last place where there are not so many.
-    pub(crate) fn place_of_row(self, row: usize) -> usize {
-        let mut left = row;
-        for place in 0..PLACES {
-            if self.here[place] {
-                if left == 0 {
-                    return place;
-                }
-                left = left - 1;
-            }
-        }
-        PLACES
+    // Whether the first, second, .. who is there, counted from 0, holds permission p.
+    pub(crate) fn row_holds(&self, row: usize, p: usize) -> bool {
+        let mut rows = self.places.iter().filter(|place| place.is_taken());
+        rows.nth(row).is_some_and(|place| place.holds(p))
     }
 
-    fn refused(self, why: u32) -> Answer {
-        Answer {
-            list: self,
-            place: 0,
-            refused: why,
+    // What a call answers by the rules: the place, or the number of the refusal.
+    pub(crate) fn answer(&mut self, call: Call) -> Result<usize, u32> {
+        match call {
+            Call::Hire(number) => self.hire(number),
+            Call::Leave(number) => self.leave(number),
+            Call::Grant(number, permission) => self.change(number, permission, true),
+            Call::Revoke(number, permission) => self.change(number, permission, false),
         }
     }
 
-    fn done(self, place: usize) -> Answer {
-        Answer {
-            list: self,
-            place: place,
-            refused: 0,
+    // Somebody new, at the first place that nobody has.
+    fn hire(&mut self, number: u32) -> Result<usize, u32> {
+        if self.place_of(number).is_some() {
+            return Err(23);
         }
+        let Some(free) = self.places.iter().position(|place| !place.is_taken()) else {
+            return Err(24);
+        };
+        self.places[free] = Place {
+            staff: Some(number),
+            ..Place::FREE
+        };
+        Ok(free)
     }
 
-    // With nothing in the cells of a place.
-    fn emptied(self, place: usize) -> Listed {
-        let here = self.here;
-        let number = self.number;
-        let mut cells = self.cells;
-        if place < PLACES {
-            for p in 0..PERMISSIONS {
-                cells[place * PERMISSIONS + p] = false;
-            }
-        }
-        Listed {
-            here: here,
-            number: number,
-            cells: cells,
-        }
-    }
-
-    // With somebody at the place, or with nobody.
-    fn with(self, place: usize, is_here: bool, staff: u32) -> Listed {
-        let mut here = self.here;
-        let mut number = self.number;
-        let cells = self.cells;
-        if place < PLACES {
-            here[place] = is_here;
-            number[place] = staff;
-        }
-        Listed {
-            here: here,
-            number: number,
-            cells: cells,
-        }
-    }
-
-    // With one cell as it is told.
-    fn with_cell(self, place: usize, p: usize, held: bool) -> Listed {
-        let here = self.here;
-        let number = self.number;
-        let mut cells = self.cells;
-        if place < PLACES {
-            if p < PERMISSIONS {
-                cells[place * PERMISSIONS + p] = held;
-            }
-        }
-        Listed {
-            here: here,
-            number: number,
-            cells: cells,
-        }
-    }
-
-    fn hire(self, number: u32) -> Answer {
-        if self.place_of(number) < PLACES {
-            return self.refused(23);
-        }
-        let place = self.free();
-        if place >= PLACES {
-            return self.refused(24);
-        }
-        self.emptied(place).with(place, true, number).done(place)
-    }
-
-    fn leave(self, number: u32) -> Answer {
-        let place = self.place_of(number);
-        if place >= PLACES {
-            return self.refused(22);
-        }
-        self.with(place, false, number).done(place)
+    fn leave(&mut self, number: u32) -> Result<usize, u32> {
+        let at = self.place_of(number).ok_or(22u32)?;
+        self.places[at].staff = None;
+        Ok(at)
     }
 
     // Holding a permission from now on, or not.
-    fn change(self, number: u32, permission: u32, held: bool) -> Answer {
-        if permission > 31 {
-            return self.refused(21);
+    fn change(&mut self, number: u32, permission: u32, held: bool) -> Result<usize, u32> {
+        let p = permission as usize;
+        if p >= PERMISSIONS {
+            return Err(21);
         }
-        let place = self.place_of(number);
-        if place >= PLACES {
-            return self.refused(22);
-        }
-        self.with_cell(place, permission as usize, held).done(place)
-    }
-
-    // What a call answers by the rules.
-    pub(crate) fn answer(self, call: Call) -> Answer {
-        if call.kind == HIRE {
-            return self.hire(call.number);
-        }
-        if call.kind == LEAVE {
-            return self.leave(call.number);
-        }
-        self.change(call.number, call.permission, call.kind == GRANT)
+        let at = self.place_of(number).ok_or(22u32)?;
+        self.places[at].cells[p] = held;
+        Ok(at)
     }
 }

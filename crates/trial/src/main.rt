@@ -20,89 +20,63 @@ mod question;
 mod reason;
 mod shown;
 
-use compare::{Counts, Difference, KINDS, Kind, VERDICTS};
+use compare::{Counts, Difference, KINDS, Kind, show};
 use planted::Ground;
-use shown::{show_difference, show_name, show_verdict};
 use std::io;
-
-// "NAME: N compared, M differ"
-fn show(rt: &impl Print, kind: usize, counted: Kind) -> io::Result<()> {
-    let compared = counted.compared;
-    let differ = counted.differ;
-    show_name(
-        rt,
-        b"verdict|blocker|crews|units|named absence|both searches|need of skipping at most that of full|allowance|filling and trying everything|list by the rule before|placements at most by that rule|reason|reason within an allowance",
-        kind,
-    )?;
-    println!(rt; ": {compared} compared, {differ} differ")
-}
 
 // What the first difference looks like, if there is one.
 fn show_first(rt: &impl Print, first: Option<Difference>) -> io::Result<()> {
     match first {
-        Some(difference) => show_difference(rt, difference),
+        Some(difference) => println!(rt; "{difference}"),
         None => Ok(()),
     }
 }
 
 // A kind of comparison; where it differs, the table by which it did first is tried again.
-fn show_kind(rt: &impl Print, kind: usize, counted: Kind) -> io::Result<()> {
-    show(rt, kind, counted)?;
-    let mut first = None;
-    if counted.differ != 0 {
-        family::try_table(&mut first, Counts::showing(kind), counted.first);
+fn show_kind(rt: &impl Print, kind: Kind, counts: &Counts) -> io::Result<()> {
+    let tally = counts.tallies.of(kind as usize);
+    show(rt, &kind, tally)?;
+    let mut again = Counts::showing(Some(kind));
+    if let Some(table) = tally.first {
+        family::try_table(&mut again, table);
     }
-    show_first(rt, first)
-}
-
-fn show_all(rt: &impl Print, counts: Counts) -> io::Result<()> {
-    for kind in 0..KINDS {
-        show_kind(rt, kind, counts.of(kind))?;
-    }
-    Ok(())
+    show_first(rt, again.first)
 }
 
 // "replies: yes N, no N, .."
-fn show_replies(rt: &impl Print, counts: Counts) -> io::Result<()> {
+fn show_replies(rt: &impl Print, counts: &Counts) -> io::Result<()> {
     let mut mark = ':';
     print!(rt; "replies")?;
-    for verdict in 0..VERDICTS {
-        let seen = counts.seen(verdict);
-        print!(rt; "{mark} ")?;
-        show_verdict(rt, verdict)?;
-        print!(rt; " {seen}")?;
+    for (answer, count) in counts.replies() {
+        print!(rt; "{mark} {answer} {count}")?;
         mark = ',';
     }
     println!(rt)
 }
 
 // A kind of comparison of planted replies, and what the first difference looks like.
-fn show_planted(rt: &impl Print, ground: Ground, kind: usize) -> io::Result<()> {
-    print!(rt; "planted ")?;
+fn show_planted(rt: &impl Print, ground: &Ground, kind: Kind) -> io::Result<()> {
+    let mut counts = Counts::showing(Some(kind));
+    ground.planted(&mut counts, kind);
     show(
         rt,
-        kind,
-        planted::planted(&mut None, Counts::none(), ground, kind).of(kind),
+        &format_args!("planted {kind}"),
+        counts.tallies.of(kind as usize),
     )?;
-    let mut first = None;
-    planted::planted(&mut first, Counts::showing(kind), ground, kind);
-    show_first(rt, first)
-}
-
-fn show_all_planted(rt: &impl Print) -> io::Result<()> {
-    let ground = planted::example_ground();
-    for kind in 0..KINDS {
-        show_planted(rt, ground, kind)?;
-    }
-    Ok(())
+    show_first(rt, counts.first)
 }
 
 fn main(rt: HostRuntime) -> io::Result<()> {
-    let mut first = None;
-    let small = family::try_all_small(&mut first, Counts::none());
-    let counts = family::try_all_drawn(&mut first, small);
-    show_all(&rt, counts)?;
-    show_replies(&rt, counts)?;
-    show_all_planted(&rt)?;
+    let mut counts = Counts::showing(None);
+    family::try_all_small(&mut counts);
+    family::try_all_drawn(&mut counts);
+    for kind in KINDS {
+        show_kind(&rt, kind, &counts)?;
+    }
+    show_replies(&rt, &counts)?;
+    let ground = planted::example_ground();
+    for kind in KINDS {
+        show_planted(&rt, &ground, kind)?;
+    }
     afternoon::show_all(&rt)
 }

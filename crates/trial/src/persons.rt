@@ -1,6 +1,6 @@
 // Two accounts, one person: the merging by the rules, plainly. Rows that have one owner are one person, who holds what any of them holds; persons are
 // numbered in the order of their first rows.
-use crate::plain::{Duty, PERMISSIONS, ROWS, after};
+use crate::plain::{Duty, PERMISSIONS, ROWS};
 
 // A duty whose rows are accounts, and the owner of each row.
 #[derive(Clone, Copy)]
@@ -14,77 +14,41 @@ const OWN: [usize; ROWS] = [0, 1, 2, 3, 4, 5];
 
 pub(crate) fn own(accounts: Duty) -> Staff {
     Staff {
-        accounts: accounts,
+        accounts,
         owner: OWN,
     }
 }
 
 impl Staff {
-    // Whose the row is.
-    pub(crate) fn owner_of(self, row: usize) -> usize {
-        if row >= ROWS {
-            return ROWS;
-        }
-        self.owner[row]
-    }
-
-    // Whether no row before has the same owner.
-    fn is_first(self, row: usize) -> bool {
-        for u in 0..ROWS {
-            if u < row && self.owner_of(u) == self.owner_of(row) {
-                return false;
-            }
-        }
-        true
+    // The first row that has the same owner as this one.
+    fn first_row(&self, row: usize) -> Option<usize> {
+        let owner = self.owner.get(row)?;
+        self.owner.iter().position(|other| other == owner)
     }
 
     // How many persons the rows before this one have.
-    fn persons_before(self, row: usize) -> usize {
-        let mut n: usize = 0;
-        for u in 0..ROWS {
-            if u < row && self.is_first(u) {
-                n = after(n);
-            }
-        }
-        n
+    fn persons_before(&self, row: usize) -> usize {
+        (0..row).filter(|&u| self.first_row(u) == Some(u)).count()
     }
 
     // The number of the row's person: how many have their first row before his.
-    fn person(self, row: usize) -> usize {
-        for u in 0..ROWS {
-            if self.owner_of(u) == self.owner_of(row) {
-                return self.persons_before(u);
-            }
-        }
-        ROWS
+    fn person(&self, row: usize) -> Option<usize> {
+        let first = self.first_row(row)?;
+        Some(self.persons_before(first))
     }
 
     // Whether an account of the person holds permission p.
-    fn holds(self, person: usize, p: usize) -> bool {
-        let accounts = self.accounts;
-        for row in 0..ROWS {
-            if row < accounts.rows && self.person(row) == person && accounts.holds(row, p) {
-                return true;
-            }
-        }
-        false
+    fn holds(&self, person: usize, p: usize) -> bool {
+        (0..self.accounts.rows).any(|row| self.person(row) == Some(person)
+            && self.accounts.holds(row, p))
     }
 
     // The same duty, asked of the persons.
-    pub(crate) fn merged(self) -> Duty {
-        let accounts = self.accounts;
-        let task = accounts.task;
-        let mut cells = [false; 36];
-        for i in 0..36 {
-            cells[i] = self.holds(i / PERMISSIONS, i % PERMISSIONS);
-        }
+    pub(crate) fn merged(&self) -> Duty {
         Duty {
-            rows: self.persons_before(accounts.rows),
-            cells: cells,
-            task: task,
-            crews: accounts.crews,
-            size: accounts.size,
-            edition: accounts.edition,
+            rows: self.persons_before(self.accounts.rows),
+            cells: std::array::from_fn(|i| self.holds(i / PERMISSIONS, i % PERMISSIONS)),
+            ..self.accounts
         }
     }
 }

@@ -1,27 +1,40 @@
 // A question as the libraries are asked it.
+use crate::known::Wanted;
 use accounts::Accounts;
 use questions::Way;
 use reasons::Explained;
 use roster::{Policy, Reply};
+use std::fmt;
 
 // More than any need here.
 pub const AMPLE: u32 = 4294967295;
 
 // The ways to ask: either search, the two against each other, a named absence, filling crews for one against trying everything or against the
 // rule before, and why one blocks.
-pub const SKIPPING: usize = 0;
+#[derive(Clone, Copy)]
+pub enum Asking {
+    Skipping,
+    Full,
+    Both,
+    Named,
+    Filling,
+    Before,
+    Why,
+}
 
-pub const FULL: usize = 1;
-
-pub const BOTH: usize = 2;
-
-pub const NAMED: usize = 3;
-
-pub const FILLING: usize = 4;
-
-pub const BEFORE: usize = 5;
-
-pub const WHY: usize = 6;
+impl fmt::Display for Asking {
+    fn fmt<W: fmt::Write>(&self, f: &mut fmt::Formatter<W>) -> fmt::Result {
+        f.write_str(match self {
+            Asking::Skipping => "skipping",
+            Asking::Full => "full",
+            Asking::Both => "both",
+            Asking::Named => "named",
+            Asking::Filling => "filling",
+            Asking::Before => "before",
+            Asking::Why => "why",
+        })
+    }
+}
 
 // A duty as the libraries have it, and whether its permissions are spread over the whole width.
 #[derive(Clone, Copy)]
@@ -34,84 +47,77 @@ pub struct Asked {
     pub edition: u32,
 }
 
-// How many may be away counts for a policy, the absent persons for a named absence.
+// How many may be away counts for a policy; the absent persons for a named absence, and a policy has none.
 #[derive(Clone, Copy)]
 pub struct Question {
-    pub way: usize,
+    pub asking: Asking,
     pub asked: Asked,
     pub away: u32,
-    pub absent: u64,
+    pub absent: Option<u64>,
     pub allowance: u32,
 }
 
-// The policy question.
-pub(crate) fn policy(asked: Asked, way: usize, away: u32) -> Question {
-    Question {
-        way: way,
-        asked: asked,
-        away: away,
-        absent: 0,
-        allowance: AMPLE,
-    }
-}
-
-// The question for a named absence.
-pub(crate) fn named(asked: Asked, way: usize, absent: u64) -> Question {
-    Question {
-        way: way,
-        asked: asked,
-        away: 0,
-        absent: absent,
-        allowance: AMPLE,
-    }
-}
-
 impl Question {
-    // The same within an allowance.
-    pub(crate) fn within(self, allowance: u32) -> Question {
-        let asked = self.asked;
+    // The policy question.
+    pub(crate) fn policy(asked: &Asked, asking: Asking, away: u32) -> Question {
         Question {
-            way: self.way,
-            asked: asked,
-            away: self.away,
-            absent: self.absent,
-            allowance: allowance,
+            asking,
+            asked: *asked,
+            away,
+            absent: None,
+            allowance: AMPLE,
         }
+    }
+
+    // The question for a named absence.
+    pub(crate) fn named(asked: &Asked, asking: Asking, absent: u64) -> Question {
+        Question {
+            asking,
+            asked: *asked,
+            away: 0,
+            absent: Some(absent),
+            allowance: AMPLE,
+        }
+    }
+
+    // The same within an allowance.
+    pub(crate) fn within(&self, allowance: u32) -> Question {
+        Question { allowance, ..*self }
     }
 
     // What the libraries reply.
-    pub(crate) fn reply(self) -> Reply {
-        let asked = self.asked;
-        let accounts = asked.accounts;
-        let policy = asked.policy(self.away);
-        if self.way == SKIPPING {
-            return questions::ask(Way::Skipping, accounts, policy, self.allowance);
+    pub(crate) fn reply(&self) -> Reply {
+        let accounts = self.asked.accounts;
+        let policy = self.asked.policy(self.away);
+        match self.asking {
+            Asking::Skipping => questions::ask(Way::Skipping, accounts, policy, self.allowance),
+            Asking::Full => questions::ask(Way::Full, accounts, policy, self.allowance),
+            _ => questions::ask_named(accounts, policy, self.absent.unwrap_or(0), self.allowance),
         }
-        if self.way == FULL {
-            return questions::ask(Way::Full, accounts, policy, self.allowance);
-        }
-        questions::ask_named(accounts, policy, self.absent, self.allowance)
     }
 
     // How the library explains the absence.
-    pub(crate) fn explained(self) -> Explained {
-        let asked = self.asked;
-        let accounts = asked.accounts;
-        reasons::why(
-            accounts,
-            asked.policy(self.away),
-            self.absent,
-            self.allowance,
-        )
+    pub(crate) fn explained(&self) -> Explained {
+        let policy = self.asked.policy(self.away);
+        let absent = self.absent.unwrap_or(0);
+        reasons::why(self.asked.accounts, policy, absent, self.allowance)
+    }
+
+    // Either of these.
+    pub(crate) fn came(&self) -> Wanted {
+        match self.asking {
+            Asking::Why => self.explained().into(),
+            _ => self.reply().into(),
+        }
     }
 }
 
 impl Asked {
     // The policy with so many away.
-    fn policy(self, away: u32) -> Policy {
+    fn policy(&self, away: u32) -> Policy {
         Policy {
             task: self.task,
-            away: away,
+            away,
             crews: self.crews,
             size: self.size,
             edition: self.edition,
