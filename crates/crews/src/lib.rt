@@ -350,10 +350,8 @@ pub fn holders_of(holds: &[u32; Policy::ROWS]) -> [u64; 32]
 fn reply_of(filled: Filled) -> Reply
     ensures { result ≡ replied_of filled }
 {
-    let crews = filled.crews;
-    let ending = filled.ending;
-    match ending {
-        Ending::Complete => Reply::crews(crews, filled.units),
+    match filled.ending {
+        Ending::Complete => Reply::crews(filled.crews, filled.units),
         Ending::Exhausted => Reply::none(filled.units),
         Ending::Undecided => Reply::undecided(filled.units),
     }
@@ -364,22 +362,20 @@ pub fn ask_named(table: Table, policy: Policy, absent: u64, allowance: u32) -> R
     ensures { NamedReplyFor table policy absent allowance result }
 {
     let rows = table.rows;
-    match roster::named_ruling(rows, policy, absent) {
-        Err(refusal) => Reply::refused(refusal),
-        Ok(()) => {
-            let holds = holdings_within(table, policy.task);
-            let holders = holders_of(&holds);
-            reply_of(fill(
-                &holds,
-                &holders,
-                policy.task,
-                policy.crews,
-                policy.size,
-                roster::least_members(policy.edition),
-                sets::below(rows) & !absent,
-                0,
-                allowance,
-            ))
-        }
+    if let Err(refusal) = roster::named_ruling(rows, policy, absent) {
+        return Reply::refused(refusal);
     }
+    let holds = holdings_within(table, policy.task);
+    let holders = holders_of(&holds);
+    reply_of(fill(
+        &holds,
+        &holders,
+        policy.task,
+        policy.crews,
+        policy.size,
+        roster::least_members(policy.edition),
+        sets::below(rows) & !absent,
+        0,
+        allowance,
+    ))
 }

@@ -11,21 +11,21 @@ ghost use Rattle.sets.specs.Members.{members};
 pub fn size(set: u64) -> u32
     ensures { result ≡ ones set }
 {
-    u64::count_ones(set)
+    set.count_ones()
 }
 
 // The least member of a set; 64 if it is empty. A function of its own, so that its reply can be cast with no bound to prove.
 pub fn least(set: u64) -> u32
     ensures { result ≡ count_trailing_zeros 64 set }
 {
-    u64::trailing_zeros(set)
+    set.trailing_zeros()
 }
 
-// The same within 32 numbers; 32 if the set is empty.
-pub fn lowest(set: u32) -> u32
-    ensures { result ≡ count_trailing_zeros 32 set }
+// The same within 32 numbers; 32 if the mask is empty. The two stay apart: a trait would hold both bodies again, each with its contract.
+pub fn lowest(mask: u32) -> u32
+    ensures { result ≡ count_trailing_zeros 32 mask }
 {
-    u32::trailing_zeros(set)
+    mask.trailing_zeros()
 }
 
 // The set of all numbers below n, as far as the width goes. A shift by the width would be an error.

@@ -77,10 +77,10 @@ ruled c = sym c.named_ruling.ensures
 wide : (c : Start) → c.args.policy.task < 2 ^ 32
 wide c = search rules
 
-pub returns-in-Ok : goal.returns-in-Ok
-returns-in-Ok c = let s = c.args in
-    let fits = wide (goal.at.returns-in-Ok c).Start in
-    let ok = ruled (goal.at.returns-in-Ok c).After-named_ruling ∙ c.in-Ok.is in
+pub returns : goal.returns
+returns c = let s = c.args in
+    let fits = wide (goal.at.returns c).Start in
+    let ok = ruled (goal.at.returns c).After-named_ruling ∙ c.in_default.is in
     let k = (named_within s.table.rows s.policy.task s.policy.crews s.policy.size s.policy.edition s.absent ok).0 in
     let holds = c.holdings_within-holds in
     let holders = c.holders_of-holders in
