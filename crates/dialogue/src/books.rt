@@ -10,11 +10,7 @@ use values::NotWritten;
 
 // The first bytes of a buffer; none where there are not so many.
 fn front(bytes: &[u8], length: usize) -> &[u8] {
-    if length <= bytes.len() {
-        &bytes[0..length]
-    } else {
-        &bytes[0..0]
-    }
+    bytes.get(..length).unwrap_or(b"")
 }
 
 // Puts the roster's book into the buffer, and answers how many bytes it has.

@@ -15,13 +15,6 @@ use std::env::FillError;
 use std::rt::{Env, Files, Runtime};
 use typed::{Ended, Line};
 
-// The board to begin with, if there is one.
-#[derive(Clone, Copy)]
-struct Start {
-    board: Board,
-    is_ready: bool,
-}
-
 fn complain(rt: &impl Eprint, text: &str) {
     let _ = eprintln!(rt; "roster: {text}");
 }
@@ -46,60 +39,49 @@ fn not_taken(rt: &impl Eprint, why: NotTaken) {
     }
 }
 
-fn of_book(rt: &impl Eprint, book: &[u8]) -> Start {
+// The board with the book's roster; none where the book is not taken, which is complained of.
+fn of_book(rt: &impl Eprint, book: &[u8]) -> Option<Board> {
     match desk::fill(book) {
-        Ok(roster) => Start {
-            board: Board {
-                roster,
-                values: values::of_book(book),
-                is_heard: true,
-            },
-            is_ready: true,
-        },
+        Ok(roster) => Some(Board {
+            roster,
+            values: values::of_book(book),
+            is_heard: true,
+        }),
         Err(why) => {
             not_taken(rt, why);
-            unready()
+            None
         }
     }
 }
 
-fn unready() -> Start {
-    Start {
-        board: Board::empty(),
-        is_ready: false,
-    }
-}
-
-// The roster of the book with this name. One byte more than the longest book has is enough to refuse what is longer.
-fn of_name(rt: &(impl Files + Eprint), name: &str) -> Start {
+// The board of the book with this name. One byte more than the longest book has is enough to refuse what is longer.
+fn of_name(rt: &(impl Files + Eprint), name: &str) -> Option<Board> {
     let mut book = [0u8; lines::ENOUGH];
     let Some(size) = input::read_file(rt, name, &mut book) else {
         complain(rt, "the book cannot be read");
-        return unready();
+        return None;
     };
     of_book(rt, &book[..size])
 }
 
 // The name has to be text; there is no longer path.
-fn of_argument(rt: &(impl Files + Eprint), argument: Option<&[u8]>) -> Start {
+fn of_argument(rt: &(impl Files + Eprint), argument: Option<&[u8]>) -> Option<Board> {
     if let Some(bytes) = argument
         && let Ok(name) = str::from_utf8(bytes)
     {
         return of_name(rt, name);
     }
     complain(rt, "the book cannot be read");
-    unready()
+    None
 }
 
-fn beginning(rt: &(impl Files + Env + Eprint)) -> Start {
+// The board to begin with, if there is one.
+fn beginning(rt: &(impl Files + Env + Eprint)) -> Option<Board> {
     let mut name = [0u8; 4096];
     match rt.arg(1, &mut name) {
         Ok(length) => of_argument(rt, Some(&name[..length])),
         Err(FillError::TooLong) => of_argument(rt, None),
-        Err(FillError::NotPresent) => Start {
-            board: Board::empty(),
-            is_ready: true,
-        },
+        Err(FillError::NotPresent) => Some(Board::empty()),
     }
 }
 
@@ -143,8 +125,7 @@ fn talk<R: Runtime>(rt: &R, mut board: Board) {
 }
 
 fn main(rt: HostRuntime) {
-    let start = beginning(&rt);
-    if start.is_ready {
-        talk(&rt, start.board);
+    if let Some(board) = beginning(&rt) {
+        talk(&rt, board);
     }
 }

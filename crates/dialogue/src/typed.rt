@@ -15,7 +15,7 @@ pub enum Ended {
     Failed,
 }
 
-// The first `length` bytes are the line. Of one that is too long the front is kept.
+// The first `length` bytes are the line. Of one that is too long the front is kept. An array with its length and no `Vec`: no program here has a heap.
 #[derive(Clone, Copy)]
 pub struct Line {
     bytes: [u8; WIDTH],

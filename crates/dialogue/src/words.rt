@@ -43,7 +43,8 @@ pub(crate) fn has_words(text: &[u8], count: usize) -> bool {
     word(text, count).is_empty() && (count == 0 || !word(text, count - 1).is_empty())
 }
 
-// The number of 32 bits that the word is. A number has ten digits at most, with those in front that are 0, and no sign.
+// The number of 32 bits that the word is. A number has ten digits at most, with those in front that are 0, and no sign; `parse` would take more
+// digits, and a `+`.
 pub(crate) fn number_of(word: &[u8]) -> Option<u32> {
     if word.is_empty() || word.len() > 10 {
         return None;

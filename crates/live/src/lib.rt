@@ -16,7 +16,7 @@ use roster::{Policy, Reply, Table};
 pub use absences::Way;
 
 // Who stands at which place: bit i of `occupied` says that place i is taken. A place that is not has staff number 0 and holdings 0, and stands
-// in no set of `holders`.
+// in no set of `holders`. The arrays stay beside each other, since `Agrees` and the calls of specs/Changes speak of each by its name.
 #[derive(Clone, Copy)]
 pub struct Roster {
     pub occupied: u64,
@@ -132,7 +132,8 @@ impl Roster {
         }
     }
 
-    // This staff number at this place, with no holdings.
+    // This staff number at this place, with no holdings. Each change below asks for a place below the limit by itself: a type for such places would be no
+    // plainer, as a place comes from `place_of` or `free_place` and goes into `Told` as a number.
     fn hired(mut self, place: usize, number: u32) -> Roster
         requires { place < row_limit }
         ensures { result ≡ hired_at place number self }
