@@ -63,13 +63,17 @@ merging_none f h = record {
 
 module _ (f h : ℕ → ℕ) (k : ℕ) (held numbers : List ℕ) (count : ℕ) (m : Merging f h k held numbers count) where
   -- the place that the row's number is looked up at is its person
-  pub merging_place : (place : ℕ) → place ≡ unwrap_or (position (λ x. eqb x (f k)) (take count numbers)) count → place ≡ person_of f k
+  pub merging_place : (place : ℕ) → place ≡ first (λ i. eqb (at numbers i) (f k)) count → place ≡ person_of f k
   merging_place place e =
       e
-      ∙ position_first (λ x. eqb x (f k)) count numbers (omega (arith, m.few, m.within, m.long_numbers))
       ∙ first_ext (λ i. eqb (at numbers i) (f k)) (λ i. eqb (number_of f k i) (f k)) count (λ i l. ap (λ (x : ℕ). eqb x (f k)) (m.numbers_at i))
       ∙ ap (first (λ i. eqb (number_of f k i) (f k))) m.counted
       ∙ looked_up f k
+
+  -- and that is where `position` finds it, or the count where it finds nothing
+  pub position_place : (place : ℕ) → place ≡ unwrap_or (position (λ x. eqb x (f k)) (take count numbers)) count → place ≡ person_of f k
+  position_place place e =
+      merging_place place (e ∙ position_first (λ x. eqb x (f k)) count numbers (omega (arith, m.few, m.within, m.long_numbers)))
 
   module _ (place : ℕ) (is : place ≡ person_of f k) (more : k < 64) where
     pub place_below : place < 64

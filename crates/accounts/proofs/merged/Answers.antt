@@ -7,7 +7,7 @@ use borrow.Author.Rules.{rules}
 use Rattle.sets.specs.Arrays.{at}
 use Rattle.accounts.specs.declared.Accounts.{Accounts}
 use Rattle.accounts.specs.Persons.{person_of}
-use Rattle.accounts.proofs.Laws.Merging.{Merging, merging_none, merging_place, place_below, merging_new, merging_known, merged_all}
+use Rattle.accounts.proofs.Laws.Merging.{Merging, merging_none, position_place, place_below, merging_new, merging_known, merged_all}
 use Rattle.accounts.proofs.merged.Goals as goal
 use Rattle.accounts.proofs.merged.Goals.{After-unwrap_or-place, then-place-count, else-place-count}
 
@@ -29,7 +29,7 @@ module _ (k : After-unwrap_or-place) where
   more = omega arith
 
   his : place ≡ person_of (at asked.persons) row
-  his = merging_place _ _ row _ _ _ so_far place (k.unwrap_or-place.ensures ∙ ap (λ (o : Option ℕ). unwrap_or o k.loop-row.count) k.place_of.ensures)
+  his = position_place _ _ row _ _ _ so_far place (k.unwrap_or-place.ensures ∙ ap (λ (o : Option ℕ). unwrap_or o k.loop-row.count) k.place_of.ensures)
 
   within : place < 64
   within = place_below _ _ row _ _ _ so_far place his more
