@@ -36,7 +36,7 @@ pub enum Form {
 }
 
 // What is wrong with a book. `number` gives the number that is published for each.
-#[derive(Clone, Copy)]
+#[derive(Clone, Copy, Debug, PartialEq, Eq)]
 pub enum Fault {
     Short,
     Permissions,
@@ -59,7 +59,7 @@ pub struct Starts {
 }
 
 // Why a book is refused: its first fault, with the place of the count or field concerned.
-#[derive(Clone, Copy)]
+#[derive(Clone, Copy, Debug, PartialEq, Eq)]
 pub struct FaultAt {
     pub fault: Fault,
     pub place: usize,
@@ -116,7 +116,8 @@ impl Form {
 
 // ---- what the reader goes by; what is public of it is so only for the laws of crates above, which name it
 
-// The sections, in their order.
+// The sections, in their order. A trait with a type for each would be no plainer: six methods thrice, most of them one number, and the form passed
+// to codes, which have none.
 #[derive(Clone, Copy)]
 pub enum Section {
     Permissions,
@@ -209,6 +210,7 @@ fn place_of(book: &[u8], form: Form, section: Section, start: usize, i: usize) -
 }
 
 // How many permissions a book lists; a refused one has none.
+#[tactic(auto, unfolding(crate::specs::Parts::code_count_of))]
 pub fn code_count(book: &[u8]) -> usize
     ensures reply { result ≡ code_count_of book.now }
     ensures kept { book.exit.now ≡ book.entry.now }
@@ -256,6 +258,7 @@ fn accounts_at(book: &[u8], starts: Starts) -> Accounts
 }
 
 // The accounts of a book; a refused one has no rows.
+#[tactic(auto, unfolding(crate::specs::Parts::accounts_in))]
 pub fn accounts_of(book: &[u8]) -> Accounts
     ensures reply { result ≡ accounts_in book.now }
     ensures kept { book.exit.now ≡ book.entry.now }
@@ -265,6 +268,7 @@ pub fn accounts_of(book: &[u8]) -> Accounts
 }
 
 // How many policies a book has; a refused one has none.
+#[tactic(auto, unfolding(crate::specs::Parts::policy_count_of))]
 pub fn policy_count(book: &[u8]) -> usize
     ensures reply { result ≡ policy_count_of book.now }
     ensures kept { book.exit.now ≡ book.entry.now }
@@ -284,6 +288,7 @@ pub fn policy_in(book: &[u8], start: usize, i: usize) -> Option<Policy>
 }
 
 // The i-th policy of a book; a refused one has none.
+#[tactic(auto, unfolding(crate::specs::Parts::policy_at))]
 pub fn policy_at(book: &[u8], i: usize) -> Option<Policy>
     ensures reply { result ≡ policy_at book.now i }
     ensures kept { book.exit.now ≡ book.entry.now }

@@ -423,7 +423,7 @@ fn entries(
 {
     let wide = width(form, section);
     let mut cursor = Cursor { before: None, at };
-    for i in 0..count {
+    for _passed in 0..count {
         look_entry(book, form, section, listed, cursor)?;
         cursor = cursor.past(wide);
     }

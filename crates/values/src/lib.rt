@@ -34,14 +34,14 @@ pub struct Values {
 }
 
 // Why values are not written. `number` gives the number that is published for each.
-#[derive(Clone, Copy)]
+#[derive(Clone, Copy, Debug, PartialEq, Eq)]
 pub enum Unwritten {
     Fault(Fault),
     Room,
 }
 
 // Why a book is not written, with the place 0: there is no place in a book that is not written.
-#[derive(Clone, Copy)]
+#[derive(Clone, Copy, Debug, PartialEq, Eq)]
 pub struct NotWritten {
     pub why: Unwritten,
     pub place: usize,

@@ -10,27 +10,27 @@ use Rattle.book.proofs.sections.entries.Goals as goal
 
 pub past-cursor-requires : goal.past-cursor-requires
 past-cursor-requires c = let a = c.args in
-    let h = whole_entry a.form a.section a.book.now a.listed c.loop-i.cursor.before c.loop-i.cursor.at (sym c.look_entry.ensures ∙ c.in_ok-look_entry.was) in
-    omega (arith, c.loop-i.invariant.0)
+    let h = whole_entry a.form a.section a.book.now a.listed c.loop-passed.cursor.before c.loop-passed.cursor.at (sym c.look_entry.ensures ∙ c.in_ok-look_entry.was) in
+    omega (arith, c.loop-passed.invariant.0)
 
-pub loop-i-preserved : goal.loop-i-preserved
-loop-i-preserved c = let a = c.args in
-    let l = c.loop-i in
-    let passed = step_sound (look_in a.form a.section a.book.now a.listed) (width_in a.form a.section) l.cursor (a.count - l.i)
-    (omega (arith, c.loop-i-test.true)) (sym c.look_entry.ensures ∙ c.in_ok-look_entry.was) in
+pub loop-passed-preserved : goal.loop-passed-preserved
+loop-passed-preserved c = let a = c.args in
+    let l = c.loop-passed in
+    let passed = step_sound (look_in a.form a.section a.book.now a.listed) (width_in a.form a.section) l.cursor (a.count - l._passed)
+    (omega (arith, c.loop-passed-test.true)) (sym c.look_entry.ensures ∙ c.in_ok-look_entry.was) in
     let moved : past_entry l.cursor (width_in a.form a.section) ≡ c.past-cursor.result =
     ap (past_entry l.cursor) (sym l.invariant.0) ∙ sym c.past-cursor.ensures in
-    let less : a.count - l.i - 1 ≡ a.count - (l.i + 1) = omega arith in
+    let less : a.count - l._passed - 1 ≡ a.count - (l._passed + 1) = omega arith in
     (l.invariant.0, l.invariant.1 ∙ passed ∙ ap₂ (λ (x : Cursor) (n : ℕ). steps a.book.now a.form a.section a.listed x n) moved less)
 
 pub returns-in_err-look_entry : goal.returns-in_err-look_entry
 returns-in_err-look_entry c = let a = c.args in
     passed_up _ c.from_residual.ensures.1
-    ∙ sym (c.loop-i.invariant.1
-    ∙ step_faulty (look_in a.form a.section a.book.now a.listed) (width_in a.form a.section) c.loop-i.cursor (a.count - c.loop-i.i) _
-    (omega (arith, c.loop-i-test.true)) (sym c.look_entry.ensures ∙ c.in_err-look_entry.was))
+    ∙ sym (c.loop-passed.invariant.1
+    ∙ step_faulty (look_in a.form a.section a.book.now a.listed) (width_in a.form a.section) c.loop-passed.cursor (a.count - c.loop-passed._passed) _
+    (omega (arith, c.loop-passed-test.true)) (sym c.look_entry.ensures ∙ c.in_err-look_entry.was))
 
 pub returns : goal.returns
 returns c = let a = c.args in
-    sym (c.loop-i.invariant.1
-    ∙ step_none (look_in a.form a.section a.book.now a.listed) (width_in a.form a.section) c.loop-i.cursor (a.count - c.loop-i.i) (omega (arith, c.loop-i-test.false)))
+    sym (c.loop-passed.invariant.1
+    ∙ step_none (look_in a.form a.section a.book.now a.listed) (width_in a.form a.section) c.loop-passed.cursor (a.count - c.loop-passed._passed) (omega (arith, c.loop-passed-test.false)))

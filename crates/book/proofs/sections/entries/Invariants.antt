@@ -14,5 +14,5 @@ use Rattle.book.proofs.sections.entries.Given as goal
 abbrev pub steps : List ℕ → Form → Section → ℕ → Cursor → ℕ → Result ℕ FaultAt
 steps book form section listed = step_from (look_in form section book listed) (width_in form section)
 
-abbrev pub invariant-loop-i : goal.invariant-loop-i
-invariant-loop-i l = (l.wide ≡ width_in l.form l.section) × (steps l.book l.form l.section l.listed (start_at l.at) l.count ≡ steps l.book l.form l.section l.listed l.cursor (l.count - l.i))
+abbrev pub invariant-loop-passed : goal.invariant-loop-passed
+invariant-loop-passed l = (l.wide ≡ width_in l.form l.section) × (steps l.book l.form l.section l.listed (start_at l.at) l.count ≡ steps l.book l.form l.section l.listed l.cursor (l.count - l._passed))
