@@ -45,10 +45,10 @@ fn codes(seed: u64) -> [u16; PERMISSIONS] {
     let mut codes = [0u16; PERMISSIONS];
     let mut state = seed;
     let mut code = seed % 1500;
-    for i in 0..PERMISSIONS {
-        codes[i] = (code % 65536) as u16;
+    for place in &mut codes {
+        *place = (code % 65536) as u16;
         state = next(state);
-        code = std::num::wrapping_add_u64(code, 1 + state % 2000);
+        code = code.wrapping_add(1 + state % 2000);
     }
     codes
 }
@@ -79,15 +79,15 @@ fn rows(seed: u64, listed: usize) -> [Row; Policy::ROWS] {
     let mut rows = [nobody; Policy::ROWS];
     let mut state = seed;
     let mut staff = seed / 2 % 3;
-    for i in 0..Policy::ROWS {
+    for row in &mut rows {
         let held = next(state);
         state = next(held);
-        rows[i] = Row {
+        *row = Row {
             staff: (staff % 4294967296) as u32,
             person: person(seed, state),
             holdings: set(held, listed),
         };
-        staff = std::num::wrapping_add_u64(staff, step(seed, state));
+        staff = staff.wrapping_add(step(seed, state));
     }
     rows
 }
@@ -108,8 +108,8 @@ fn policy(number: u64, listed: usize) -> Policy {
 fn policies(seed: u64, listed: usize) -> [Policy; POLICIES] {
     let mut policies = [policy(0, listed); POLICIES];
     let mut state = seed;
-    for i in 0..POLICIES {
-        policies[i] = policy(state, listed);
+    for place in &mut policies {
+        *place = policy(state, listed);
         state = next(next(state));
     }
     policies

@@ -8,7 +8,7 @@ mod saved;
 
 use saved::Way;
 use std::io;
-use table::{Making, Shown};
+use table::Shown;
 
 // As many books are drawn, and as many of them are compared with a wrong one.
 const BOOKS: usize = 3000;
@@ -32,26 +32,7 @@ fn drawn(seed: u64) -> Book {
 
 // The first bytes of a buffer; all of it where there are not so many.
 fn front(bytes: &[u8], length: usize) -> &[u8] {
-    if length <= bytes.len() {
-        &bytes[0..length]
-    } else {
-        bytes
-    }
-}
-
-// Whether two strings have the same bytes.
-fn same(a: &[u8], b: &[u8]) -> bool {
-    if a.len() != b.len() {
-        return false;
-    }
-    let mut i = 0;
-    while i < a.len() {
-        if a[i] != b[i] {
-            return false;
-        }
-        i += 1;
-    }
-    true
+    bytes.get(..length).unwrap_or(bytes)
 }
 
 // Whether the table, saved in this way, gives this book.
@@ -60,8 +41,8 @@ fn gives(table: &[u8], way: Way, book: &[u8]) -> bool {
     let length = saved::put(table, &mut text, way);
     let mut made = [0u8; values::LONGEST];
     match table::make(front(&text, length), &mut made) {
-        Making::Made(size) => same(front(&made, size), book),
-        _ => false,
+        Ok(size) => front(&made, size) == book,
+        Err(_) => false,
     }
 }
 
@@ -77,21 +58,18 @@ fn comes_back(shown: &[u8], way: Way, book: &[u8]) -> bool {
 // Whether a drawn book comes back, with so much added to the first byte of the one that it is compared with.
 fn stands(seed: u64, way: Way, added: u8) -> bool {
     let book = drawn(seed);
-    let bytes = book.bytes;
-    let length = book.length;
-    let mut other = bytes;
-    other[0] = std::num::wrapping_add_u8(other[0], added);
-    comes_back(front(&bytes, length), way, front(&other, length))
+    let mut other = book.bytes;
+    other[0] = other[0].wrapping_add(added);
+    comes_back(front(&book.bytes, book.length), way, front(&other, book.length))
 }
 
-// How many of so many books differ, by the way with this number.
-fn differing(number: usize, books: usize, added: u8) -> u64 {
-    let way = saved::by_number(number);
+// How many of so many books differ.
+fn differing(way: Way, books: usize, added: u8) -> u64 {
     let mut seed = draw::FIRST;
     let mut differ: u64 = 0;
     for _ in 0..books {
         if !stands(seed, way, added) {
-            differ = std::num::wrapping_add_u64(differ, 1);
+            differ = differ.saturating_add(1);
         }
         seed = draw::next(seed);
     }
@@ -103,16 +81,15 @@ fn show_counts(rt: &impl Print, name: &str, compared: usize, differ: u64) -> io:
     println!(rt; "{name}: {compared} compared, {differ} differ")
 }
 
-fn show_way(rt: &impl Print, number: usize) -> io::Result<()> {
-    let name = saved::name(number);
-    show_counts(rt, name, BOOKS, differing(number, BOOKS, 0))?;
+fn show_way(rt: &impl Print, way: Way) -> io::Result<()> {
+    show_counts(rt, way.name, BOOKS, differing(way, BOOKS, 0))?;
     print!(rt; "planted, ")?;
-    show_counts(rt, name, PLANTED, differing(number, PLANTED, 1))
+    show_counts(rt, way.name, PLANTED, differing(way, PLANTED, 1))
 }
 
 fn main(rt: HostRuntime) -> io::Result<()> {
-    for number in 0..saved::WAYS {
-        show_way(&rt, number)?;
+    for way in Way::all() {
+        show_way(&rt, way)?;
     }
     Ok(())
 }

@@ -3,11 +3,11 @@
 // Any table has room, with a column more and two bytes at the end of each line.
 pub const ROOM: usize = 12000;
 
-pub const WAYS: usize = 6;
-
-// What stands between two cells, whether lines end with a carriage return, and whether there is a byte order mark and a column of names.
+// What the way is called, what stands between two cells, whether lines end with a carriage return, and whether there is a byte order mark and a column
+// of names.
 #[derive(Clone, Copy)]
 pub struct Way {
+    pub(crate) name: &'static str,
     between: u8,
     returns: bool,
     marked: bool,
@@ -21,31 +21,40 @@ struct Place {
     heading: bool,
 }
 
-// The ways by number.
-pub(crate) fn by_number(number: usize) -> Way {
-    let all = number == 5;
-    Way {
-        between: if number == 1 || all {
-            b';'
-        } else if number == 2 {
-            b'\t'
-        } else {
-            b','
-        },
-        returns: number == 3 || all,
-        marked: all,
-        named: number == 4 || all,
+impl Way {
+    // As it is shown.
+    fn plain() -> Way {
+        Way {
+            name: "as shown",
+            between: b',',
+            returns: false,
+            marked: false,
+            named: false,
+        }
     }
-}
 
-pub(crate) fn name(number: usize) -> &'static str {
-    match number {
-        0 => "as shown",
-        1 => "semicolons",
-        2 => "tabs",
-        3 => "carriage returns",
-        4 => "a column of names",
-        _ => "semicolons, carriage returns, names and a byte order mark",
+    // Everything at once.
+    fn mixed() -> Way {
+        Way {
+            name: "semicolons, carriage returns, names and a byte order mark",
+            between: b';',
+            returns: true,
+            marked: true,
+            named: true,
+        }
+    }
+
+    // All ways, each once.
+    pub(crate) fn all() -> [Way; 6] {
+        let plain = Way::plain();
+        [
+            plain,
+            Way { name: "semicolons", between: b';', ..plain },
+            Way { name: "tabs", between: b'\t', ..plain },
+            Way { name: "carriage returns", returns: true, ..plain },
+            Way { name: "a column of names", named: true, ..plain },
+            Way::mixed(),
+        ]
     }
 }
 
@@ -108,13 +117,10 @@ pub(crate) fn put(table: &[u8], out: &mut [u8], way: Way) -> usize {
         begins: true,
         heading: true,
     };
-    let mut i = 0;
-    while i < table.len() {
-        let byte = table[i];
+    for &byte in table {
         let named = put_name(out, at, way, place, byte);
         at = put_byte(out, named, way, byte);
         place = place.behind(byte);
-        i += 1;
     }
     at
 }

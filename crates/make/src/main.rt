@@ -14,7 +14,7 @@ ghost use Rattle.make.specs.Said.{BookOfInput, Tells};
 
 use output::{Said, Stream};
 use std::io;
-use table::Making;
+use table::NotMade;
 
 // No complaint is longer: two numbers of at most twenty digits, and fewer than 200 bytes besides. No book is longer either.
 const ROOM: usize = 2000;
@@ -25,15 +25,15 @@ fn made(table: &[u8], out: &mut [u8]) -> Said
     ensures { Tells (BookOf (understood table.now)) out.new result }
 {
     match table::make(table, out) {
-        Making::Made(length) => Said {
+        Ok(length) => Said {
             stream: Stream::Output,
             length,
         },
-        Making::Wrong(trouble) => Said {
+        Err(NotMade::Wrong(trouble)) => Said {
             stream: Stream::Errors,
             length: words::line(out, trouble),
         },
-        Making::TooShort => Said {
+        Err(NotMade::TooShort) => Said {
             stream: Stream::Errors,
             length: 0,
         },

@@ -1,13 +1,14 @@
 -- What one turn of each loop writes, and what it leaves. Assumes nothing.
-use Rattle.std.proofs.Common.{◌≡◌, ℕ, ◌+◌, ◌-◌, ◌<◌, ◌≤◌, Bool, true, false, ◌||◌, ◌≢◌, List, [], ◌∷◌, ◌++◌, length, take, drop, sym, ap, ◌∙◌, subst, append_assoc, arith, length-drop, length-take}
+use Rattle.std.proofs.Common.{◌≡◌, ℕ, ◌+◌, ◌-◌, ◌<◌, ◌≤◌, Option, Some, None, Bool, true, false, ◌||◌, ◌≢◌, List, [], ◌∷◌, ◌++◌, length, take, drop, sym, ap, ◌∙◌, subst, append_assoc, arith, length-drop, length-take}
 use native.Mathlib.Decide.{dec_lt}
 use Rattle.text.specs.Text.{comma, newline, dash, joined, marked, Appended}
 use Rattle.text.specs.Cut.{ended}
 use Rattle.text.specs.Laws.Appends.{none, ◌then◌, read_as}
 use Rattle.table.specs.Understood.{cut, blank, under, fitted, parts}
 use Rattle.table.specs.declared.Piece.{Piece}
+use Rattle.table.specs.declared.Span.{Span}
 use Rattle.table.specs.declared.Turn.{Turn}
-use Rattle.table.specs.Inner.Fitting.{between, Within, IsPiece, kept_if, cell_if, cells_after, gap_if, rest_at, TakesLine}
+use Rattle.table.specs.Inner.Fitting.{between, heading_of, Within, HeadingIn, IsPiece, kept_if, cell_if, cells_after, gap_if, rest_at, TakesLine}
 use Rattle.table.specs.Laws.Cuts.{cut-past}
 use Rattle.table.specs.Laws.Fits.{cells_from, cells_next, blank-line, heading_line, headed_line, ended-cons, ended_gap}
 
@@ -49,41 +50,54 @@ module _ (text old : List ℕ) (turn : Turn) (from to : ℕ) (line : List ℕ) (
   is_so : {b : Bool} → blank line ≡ b → blank (between from to text) ≡ b
   is_so {b} f = subst (λ (l : List ℕ). blank l ≡ b) e f
 
-  pub takes_blank : blank line ≡ true → TakesLine text (between from to text) old old turn (record { next = turn.next; begun = turn.begun; from = 0; to = 0 })
+  -- a line that is not blank is not empty
+  some : blank line ≡ false → Within from to text → from < to
+  unfolding blank
+  some b within = go (dec_lt from to)
+    where
+      nothing : to - from ≡ 0 → true ≡ false
+      nothing z = sym (ap (λ (n : ℕ). blank (take n (drop from text))) z) ∙ is_so b
+
+      go : Dec (from < to) → from < to
+      go (yes h) = h
+      go (no n) = let f : true ≡ false = nothing (omega arith) in cc
+
+  pub takes_blank : blank line ≡ true → TakesLine text (between from to text) old old turn (record { next = turn.next; begun = turn.begun; heading = None })
   takes_blank b = record {
     bytes = [];
     put = none old turn.next;
-    rest = λ lines. ap ended (blank-line (gap_if turn.begun) (between turn.from turn.to text) (between from to text) lines (is_so b));
-    heading = (omega arith, omega arith);
+    rest = λ lines. ap ended (blank-line (gap_if turn.begun) (heading_of text turn.heading) (between from to text) lines (is_so b));
+    heading = tt;
   }
 
-  pub takes_heading : {mid new : List ℕ} {next end : ℕ} → blank line ≡ false → turn.from ≡ turn.to → Within from to text
+  pub takes_heading : {mid new : List ℕ} {next end : ℕ} → blank line ≡ false → turn.heading ≡ None → Within from to text
       → Appended (ended (gap_if turn.begun)) old turn.next mid next → Appended (fitted line line ++ (newline ∷ [])) mid next new end
-      → TakesLine text (between from to text) old new turn (record { next = end; begun = true; from = from; to = to })
-  takes_heading b same within g f =
-      let none : turn.to - turn.from ≡ 0 = omega arith in
-      let empty : length (between turn.from turn.to text) ≡ 0 = ap (λ (n : ℕ). length (take n (drop turn.from text))) none in
+      → TakesLine text (between from to text) old new turn (record { next = end; begun = true; heading = Some (record { from = from; to = to }) })
+  takes_heading b missing within g f =
+      let empty : length (heading_of text turn.heading) ≡ 0 = ap (λ (h : Option Span). length (heading_of text h)) missing in
       record {
         bytes = ended (gap_if turn.begun) ++ (fitted (between from to text) (between from to text) ++ (newline ∷ []));
         put = g then read_as (ap (λ (l : List ℕ). fitted l l ++ (newline ∷ [])) e) f;
         rest = λ lines.
-            ap ended (heading_line (gap_if turn.begun) (between turn.from turn.to text) (between from to text) lines (is_so b) empty)
+            ap ended (heading_line (gap_if turn.begun) (heading_of text turn.heading) (between from to text) lines (is_so b) empty)
             ∙ ended_gap turn.begun (fitted (between from to text) (between from to text)) (parts ([] ∷ []) (between from to text) lines);
-        heading = within;
+        heading = (some b within, within.1);
       }
 
-  pub takes_headed : {new heading : List ℕ} {end : ℕ} → heading ≡ between turn.from turn.to text → blank line ≡ false → turn.from ≢ turn.to
-      → Within turn.from turn.to text → Appended (fitted heading line ++ (newline ∷ [])) old turn.next new end
-      → TakesLine text (between from to text) old new turn (record { next = end; begun = turn.begun; from = turn.from; to = turn.to })
-  takes_headed {new} {heading} h b apart within f =
-      let full : length (between turn.from turn.to text) ≢ 0 = λ z.
-      apart (omega (arith, length-take (turn.to - turn.from) (drop turn.from text), length-drop turn.from text, within.0, within.1)) in
+  pub takes_headed : {new heading : List ℕ} {end : ℕ} (s : Span) → turn.heading ≡ Some s → heading ≡ between s.from s.to text → blank line ≡ false
+      → HeadingIn turn.heading text → Appended (fitted heading line ++ (newline ∷ [])) old turn.next new end
+      → TakesLine text (between from to text) old new turn (record { next = end; begun = turn.begun; heading = turn.heading })
+  takes_headed {new} {heading} s is h b within f =
+      let there : heading_of text turn.heading ≡ between s.from s.to text = ap (heading_of text) is in
+      let inside : HeadingIn (Some s) text = subst (λ (x : Option Span). HeadingIn x text) is within in
+      let full : length (heading_of text turn.heading) ≢ 0 = λ z.
+      omega (arith, ap length there, z, length-take (s.to - s.from) (drop s.from text), length-drop s.from text, inside.0, inside.1) in
       record {
-        bytes = fitted (between turn.from turn.to text) (between from to text) ++ (newline ∷ []);
-        put = read_as (ap (λ (l : List ℕ). fitted l line ++ (newline ∷ [])) h ∙ ap (λ (l : List ℕ). fitted (between turn.from turn.to text) l ++ (newline ∷ [])) e) f;
+        bytes = fitted (heading_of text turn.heading) (between from to text) ++ (newline ∷ []);
+        put = read_as (ap (λ (l : List ℕ). fitted l line ++ (newline ∷ [])) (h ∙ sym there) ∙ ap (λ (l : List ℕ). fitted (heading_of text turn.heading) l ++ (newline ∷ [])) e) f;
         rest = λ lines.
-            ap ended (headed_line (gap_if turn.begun) (between turn.from turn.to text) (between from to text) lines (is_so b) full)
-            ∙ ended-cons (fitted (between turn.from turn.to text) (between from to text)) _;
+            ap ended (headed_line (gap_if turn.begun) (heading_of text turn.heading) (between from to text) lines (is_so b) full)
+            ∙ ended-cons (fitted (heading_of text turn.heading) (between from to text)) _;
         heading = within;
       }
 

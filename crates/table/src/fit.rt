@@ -3,9 +3,9 @@ ghost use Rattle.std.specs.Prelude.{◌≡◌, ◌+◌, ◌-◌, ◌≤◌, [], 
 ghost use Rattle.text.specs.Text.{newline, Appended};
 ghost use Rattle.text.specs.Cut.{ended};
 ghost use Rattle.table.specs.Understood.{blank, under, fitted, tidy};
-ghost use Rattle.table.specs.Inner.Fitting.{between as Fitting·between, Within, IsPiece, IsOver, kept_if, cell_if, cells_after, gap_if, TakesLine};
+ghost use Rattle.table.specs.Inner.Fitting.{between as Fitting·between, Within, HeadingIn, IsPiece, IsOver, kept_if, cell_if, cells_after, gap_if, TakesLine};
 
-use crate::{Piece, Turn};
+use crate::{Piece, Span, Turn};
 
 // The piece that begins at a place and goes up to the next mark, or to the end.
 pub(crate) fn piece(text: &[u8], at: usize, mark: u8) -> Piece
@@ -115,41 +115,30 @@ fn put_gap(out: &mut [u8], at: usize, begun: bool) -> usize
     at
 }
 
-// The line from one place up to another, at its turn.
-fn take_line(text: &[u8], from: usize, to: usize, out: &mut [u8], turn: Turn) -> Turn
-    requires { Within from to text.now × Within turn.from turn.to text.now }
-    ensures { TakesLine text.now (Fitting·between from to text.now) out.old out.new turn result }
+// A line at its turn.
+fn take_line(text: &[u8], line: Span, out: &mut [u8], turn: Turn) -> Turn
+    requires { Within line.from line.to text.now × HeadingIn turn.heading text.now }
+    ensures { TakesLine text.now (Fitting·between line.from line.to text.now) out.old out.new turn result }
 {
-    let line = between(text, from, to);
-    let at = turn.next;
-    let begun = turn.begun;
-    let head_from = turn.from;
-    let head_to = turn.to;
-    if is_blank(line) {
+    let cells = between(text, line.from, line.to);
+    if is_blank(cells) {
         return Turn {
-            next: at,
-            begun: begun,
-            from: 0,
-            to: 0,
+            heading: None,
+            ..turn
         };
     }
-    if head_from == head_to {
-        let next = put_gap(out, at, begun);
-        let end = put_fitted(line, line, out, next);
+    let Some(heading) = turn.heading else {
+        let gap = put_gap(out, turn.next, turn.begun);
+        let next = put_fitted(cells, cells, out, gap);
         return Turn {
-            next: end,
+            next,
             begun: true,
-            from: from,
-            to: to,
+            heading: Some(line),
         };
-    }
-    let end = put_fitted(between(text, head_from, head_to), line, out, at);
-    Turn {
-        next: end,
-        begun: begun,
-        from: head_from,
-        to: head_to,
-    }
+    };
+    let above = between(text, heading.from, heading.to);
+    let next = put_fitted(above, cells, out, turn.next);
+    Turn { next, ..turn }
 }
 
 // A plain text as it is understood, at the front of a buffer.
@@ -159,14 +148,16 @@ pub(crate) fn put_tidy(text: &[u8], out: &mut [u8]) -> usize
     let mut turn = Turn {
         next: 0,
         begun: false,
-        from: 0,
-        to: 0,
+        heading: None,
     };
     let mut i = 0;
     while i < text.len() {
         let line = piece(text, i, b'\n');
-        let end = line.end;
-        turn = take_line(text, i, end, out, turn);
+        let span = Span {
+            from: i,
+            to: line.end,
+        };
+        turn = take_line(text, span, out, turn);
         i = line.next;
     }
     turn.next

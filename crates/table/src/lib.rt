@@ -106,14 +106,20 @@ struct Piece {
     next: usize,
 }
 
+// A part of a text, from one place up to another.
+#[derive(Clone, Copy)]
+struct Span {
+    from: usize,
+    to: usize,
+}
+
 // How far the lines of a table are written: the place in the buffer, whether a heading stands there, and where the heading of the next line is in
-// the text; from and to are one where a heading is waited for.
+// the text; none where one is waited for.
 #[derive(Clone, Copy)]
 struct Turn {
     next: usize,
     begun: bool,
-    from: usize,
-    to: usize,
+    heading: Option<Span>,
 }
 
 // The table of a book at the front of a buffer that is long enough for any.

@@ -6,7 +6,6 @@
 mod words;
 
 use accounts::Accounts;
-use input::Progress;
 use lines::Writing;
 use questions::Way;
 use reasons::Explanation;
@@ -20,11 +19,7 @@ const POLICIES: usize = 32;
 
 // The first bytes of a buffer; all of it where there are not so many.
 fn front(bytes: &[u8], length: usize) -> &[u8] {
-    if length <= bytes.len() {
-        &bytes[0..length]
-    } else {
-        bytes
-    }
+    bytes.get(..length).unwrap_or(bytes)
 }
 
 // The code of a permission; 0 where the book does not list it.
@@ -35,23 +30,19 @@ fn code_of(book: &[u8], permission: u32) -> u64 {
 
 // How many of the persons who are present hold the permission.
 fn holders(table: Table, permission: u32, absent: u64) -> u64 {
-    let holdings = table.holdings;
     let mut left = absent;
     let mut count: u64 = 0;
-    for person in 0..Policy::ROWS {
-        if person < table.rows && left % 2 == 0 && holds(holdings[person], permission) {
-            count = std::num::wrapping_add_u64(count, 1);
+    for &holdings in table.holdings.iter().take(table.rows) {
+        if left % 2 == 0 && holds(holdings, permission) {
+            count = count.saturating_add(1);
         }
-        left = left / 2;
+        left /= 2;
     }
     count
 }
 
 fn holds(holdings: u32, permission: u32) -> bool {
-    if permission >= 32 {
-        return false;
-    }
-    (holdings >> permission) & 1 == 1
+    permission < 32 && (holdings >> permission) & 1 == 1
 }
 
 // Why the policy does not hold, as the library explains its blocker.
@@ -68,8 +59,7 @@ fn reason(
     let numbers = people.numbers;
     let explained = reasons::why(accounts, policy, blocker, lines::ALLOWANCE);
     let told = words::away(out, at, &numbers, blocker);
-    let why = explained.why;
-    match why {
+    match explained.why {
         Explanation::Scarce(permission) => words::scarce(
             out,
             told,
@@ -86,8 +76,7 @@ fn reason(
 // What is said of a policy behind its index.
 fn verdict(out: &mut [u8], at: usize, book: &[u8], accounts: Accounts, policy: Policy) -> usize {
     let reply = questions::ask(Way::Skipping, accounts, policy, lines::ALLOWANCE);
-    let verdict = reply.verdict;
-    match verdict {
+    match reply.verdict {
         Verdict::No => {
             let told = text::word(out, at, b" no: ");
             reason(out, told, book, accounts, policy, reply.blocker)
@@ -139,16 +128,13 @@ fn said(book: &[u8], out: &mut [u8]) -> usize {
 
 fn main(rt: HostRuntime) {
     let mut book = [0u8; lines::ENOUGH];
-    match input::read_all(&mut rt.stdin(), &mut book) {
-        Progress::Whole(size) => {
-            let mut out = [0u8; ROOM];
-            let length = said(front(&book, size), &mut out);
-            if rt.write_all(front(&out, length)).is_err() {
-                let _ = rt.eprintln("why: the output cannot be written");
-            }
-        }
-        _ => {
-            let _ = rt.eprintln("why: standard input cannot be read");
-        }
+    let Ok(size) = input::read_all(&mut rt.stdin(), &mut book) else {
+        let _ = rt.eprintln("why: standard input cannot be read");
+        return;
+    };
+    let mut out = [0u8; ROOM];
+    let length = said(front(&book, size), &mut out);
+    if rt.write_all(front(&out, length)).is_err() {
+        let _ = rt.eprintln("why: the output cannot be written");
     }
 }

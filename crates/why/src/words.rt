@@ -18,16 +18,16 @@ fn name(out: &mut [u8], at: usize, first: bool, left: u64, number: u32) -> usize
         return at;
     }
     let joined = joint(out, at, first, left == 1);
-    text::decimal(out, joined, text::wide(number))
+    text::decimal(out, joined, u64::from(number))
 }
 
 // The persons of a set by their numbers, in their order.
 fn names(out: &mut [u8], at: usize, numbers: &[u32; Policy::ROWS], set: u64) -> usize {
     let mut next = at;
     let mut left = set;
-    for person in 0..Policy::ROWS {
-        next = name(out, next, next == at, left, numbers[person]);
-        left = left / 2;
+    for &number in numbers {
+        next = name(out, next, next == at, left, number);
+        left /= 2;
     }
     next
 }
@@ -81,7 +81,7 @@ fn at_most(out: &mut [u8], at: usize, size: u32) -> usize {
         return text::word(out, at, b" of 1");
     }
     let most = text::word(out, at, b" of at most ");
-    text::decimal(out, most, text::wide(size))
+    text::decimal(out, most, u64::from(size))
 }
 
 // How large a crew may be that has two members at least.
@@ -94,7 +94,7 @@ fn from_two(out: &mut [u8], at: usize, size: u32) -> usize {
         return two;
     }
     let to = text::word(out, two, b" to ");
-    text::decimal(out, to, text::wide(size))
+    text::decimal(out, to, u64::from(size))
 }
 
 // How large a crew may be.

@@ -1,9 +1,10 @@
 -- What the functions that fit lines to their headings answer. Nothing here is proved: these are definitions.
-use Rattle.std.specs.Prelude.{◌≡◌, ℕ, ◌-◌, ◌<◌, ◌≤◌, Bool, true, false, List, [], ◌∷◌, ◌++◌, length, take, drop}
+use Rattle.std.specs.Prelude.{◌≡◌, ℕ, ◌-◌, ◌<◌, ◌≤◌, Bool, true, false, List, [], ◌∷◌, ◌++◌, Option, Some, None, length, take, drop}
 use Rattle.text.specs.Text.{comma, joined, marked, Appended}
 use Rattle.text.specs.Cut.{ended}
 use Rattle.table.specs.Understood.{cut, parts}
 use Rattle.table.specs.declared.Piece.{Piece}
+use Rattle.table.specs.declared.Span.{Span}
 use Rattle.table.specs.declared.Turn.{Turn}
 
 -- from one place up to another
@@ -12,6 +13,16 @@ between from to text = take (to - from) (drop from text)
 
 abbrev pub Within : ℕ → ℕ → List ℕ → Type 0
 Within from to text = (from ≤ to) × (to ≤ length text)
+
+-- the heading that counts: none is as an empty one
+abbrev pub heading_of : List ℕ → Option Span → List ℕ
+heading_of text None = []
+heading_of text (Some s) = between s.from s.to text
+
+-- a heading is a part of the text, and not empty
+abbrev pub HeadingIn : Option Span → List ℕ → Type 0
+HeadingIn None text = Unit {0}
+HeadingIn (Some s) text = (s.from < s.to) × (s.to ≤ length text)
 
 -- the first piece, nothing where there is none, and the others
 unfoldable pub first_of : List (List ℕ) → List ℕ
@@ -62,11 +73,11 @@ gap_if true = [] ∷ []
 
 -- what is left to be written at a turn, where these lines are left to be read
 abbrev pub rest_at : List ℕ → Turn → List (List ℕ) → List ℕ
-rest_at text turn lines = ended (parts (gap_if turn.begun) (between turn.from turn.to text) lines)
+rest_at text turn lines = ended (parts (gap_if turn.begun) (heading_of text turn.heading) lines)
 
 -- a line's turn: what it writes, and that the rest is what is left
 pub record TakesLine (text line old new : List ℕ) (before after : Turn) : Type 0 where
   pub bytes : List ℕ
   pub put : Appended bytes old before.next new after.next
   pub rest : (lines : List (List ℕ)) → rest_at text before (line ∷ lines) ≡ bytes ++ rest_at text after lines
-  pub heading : Within after.from after.to text
+  pub heading : HeadingIn after.heading text

@@ -10,7 +10,7 @@ use Rattle.table.proofs.fit.put_tidy.Goals as goal
 
 pub loop-i-init : goal.loop-i-init
 unfolding tidy
-loop-i-init c = (omega arith, (omega arith, omega arith), begin _ _ _)
+loop-i-init c = (omega arith, tt, begin _ _ _)
 
 pub loop-i-preserved : goal.loop-i-preserved
 loop-i-preserved c = let l = c.loop-i in
