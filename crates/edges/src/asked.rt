@@ -51,6 +51,7 @@ pub(crate) fn with_rows(mut accounts: Accounts, rows: &str) -> Accounts {
     let alike = alike_of(rows);
     let from = accounts.rows;
     let to = from.wrapping_add(alike.count);
+    // two arrays are written at a row: zipped, they read no plainer
     for row in from..to.min(Policy::ROWS) {
         accounts.holdings[row] = alike.held;
         accounts.persons[row] = alike.person_of(row);

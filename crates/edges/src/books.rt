@@ -14,7 +14,7 @@ pub const ROOM: usize = 1100;
 // No text of a file is longer.
 pub const TEXT: usize = 65536;
 
-// Puts what the file has into the buffer, and answers how many bytes: none where there is no such file.
+// Puts what the file has into the buffer, and answers how many bytes: none where there is no such file. `input::read_file` reads into a lent buffer.
 pub(crate) fn load(rt: &impl Files, name: &str, room: &mut [u8]) -> usize
     ensures { IsPrefixLen result room.new }
 {

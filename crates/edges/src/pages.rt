@@ -13,7 +13,7 @@ use std::alloc::{AllocError, Global};
 use std::rt::Files;
 use values::{NotWritten, Values};
 
-// What every byte of the buffer is before.
+// What every byte of the buffer is before, which the writer is lent as an array, to see that it touches nothing else.
 const BEFORE: u8 = 7;
 
 // ---- values

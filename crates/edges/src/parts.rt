@@ -17,10 +17,9 @@ pub(crate) fn row(alloc: Global, book: &[u8], row: u64) -> Result<String, AllocE
 pub(crate) fn accounts(alloc: Global, book: &[u8]) -> Result<String, AllocError> {
     let accounts = book::accounts_of(book);
     let mut line = format!(in alloc; "{}", accounts.rows)?;
-    for row in [0usize, 1, 2, 3, 4, 63] {
-        if row < 64 {
-            let held = accounts.holdings[row];
-            let person = accounts.persons[row];
+    let rows = accounts.holdings.iter().zip(accounts.persons.iter());
+    for (row, (held, person)) in rows.enumerate() {
+        if row < 5 || row == 63 {
             write!(line, " {held}:{person}")?;
         }
     }

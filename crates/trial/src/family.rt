@@ -29,7 +29,7 @@ pub(crate) fn bit_of(spread: bool, p: usize) -> u32 {
     }
 }
 
-// The permissions for which this is true, as the libraries have them.
+// The permissions for which this is true, as the libraries have them. A `filter` and a `fold` were tried: they ask more of `is_in`, of every caller.
 fn permissions<F: Fn(usize) -> bool + Drop>(spread: bool, is_in: F) -> u32
     requires { F.IsAlwaysCallable is_in }
 {
@@ -65,6 +65,7 @@ fn accounts_of(staff: &Staff, spread: bool, noise: u32) -> Accounts {
     let unasked = noise & !task_of(duty, spread);
     let mut holdings = [noise; Policy::ROWS];
     let mut persons = [number_of(staff.owner[0]); Policy::ROWS];
+    // two arrays are written at a row: zipped, they read no plainer
     for (row, owner) in staff.owner.iter().enumerate() {
         if row < duty.rows {
             holdings[row] = holdings_of(duty, spread, row) | unasked;

@@ -3,7 +3,7 @@ ghost use Rattle.std.specs.Prelude.{◌≤◌};
 
 use crate::plain::{Duty, PERMISSIONS, ROWS, contains};
 
-// More steps than filling takes on so small a table.
+// More steps than filling takes on so small a table: a count is plainer than a measure that says that taking back ends.
 const STEPS: usize = 100000;
 
 // By the rule the first rows of crews ascend; by the rule before any row began a crew.

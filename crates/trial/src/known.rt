@@ -32,7 +32,8 @@ const NOTHING: Fact = Fact {
     worth: false,
 };
 
-// A duty, how many sets its rows have, the facts by the sets' numbers, and the same in the order of absences.
+// A duty, how many sets its rows have, the facts by the sets' numbers, and the same in the order of absences; past the sets stands NOTHING, so that the
+// arrays are read whole. A `Vec` is no plainer: it would let each of the tables fail for want of memory.
 #[derive(Clone, Copy)]
 pub struct Known {
     pub duty: Duty,

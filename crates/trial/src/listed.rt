@@ -80,7 +80,7 @@ impl Listed {
         rows.nth(row).is_some_and(|place| place.holds(p))
     }
 
-    // What a call answers by the rules: the place, or the number of the refusal.
+    // What a call answers by the rules: the place, or the number of the refusal, which is written out here and not the library's.
     pub(crate) fn answer(&mut self, call: Call) -> Result<usize, u32> {
         match call {
             Call::Hire(number) => self.hire(number),

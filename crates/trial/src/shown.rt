@@ -1,5 +1,6 @@
 // A question and a reply as text, written as the cases of the program `edges` are: TABLE, then P;s,d,t, and `;2` behind it
-// by the second edition. Sets are lists of persons; `-` is an empty one.
+// by the second edition. Sets are lists of persons; `-` is an empty one. `edges` has writers of the same form: a library for two programs of which this
+// one is to be independent is no plainer.
 use crate::compare::Difference;
 use crate::known::{LISTED, Wanted};
 use crate::question;
