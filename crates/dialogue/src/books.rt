@@ -1,7 +1,6 @@
 // The roster's book: the rows that stand in the roster now, with the codes and policies of the book that it came from.
 use crate::board::Board;
 use crate::said;
-use lines::Writing;
 use std::fs::{File, OpenFile};
 use std::io;
 use std::io::Write;
@@ -43,8 +42,8 @@ pub(crate) fn sheet(rt: &impl Print, board: Board) -> bool {
 fn show(rt: &impl Print, book: &[u8]) -> bool {
     let mut text = [0u8; lines::LONGEST];
     match lines::sheet(book, &mut text) {
-        Writing::Written(length) => said::text(rt, front(&text, length)),
-        Writing::TooShort => false,
+        Ok(length) => said::text(rt, front(&text, length)),
+        Err(_) => false,
     }
 }
 

@@ -50,7 +50,7 @@ fn gives(table: &[u8], way: Way, book: &[u8]) -> bool {
 fn comes_back(shown: &[u8], way: Way, book: &[u8]) -> bool {
     let mut table = [0u8; table::LONGEST];
     match table::show(shown, &mut table) {
-        Shown::Table(length) => gives(front(&table, length), way, book),
+        Ok(Shown::Table(length)) => gives(front(&table, length), way, book),
         _ => false,
     }
 }

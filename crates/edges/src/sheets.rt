@@ -1,7 +1,6 @@
 // Printed sheets, whole: `sheet BOOK`, with `|` for each newline; `prints BOOK`, which is held against the file that is wanted; `short BOOK`, into a
 // buffer that is one byte too short.
 use crate::books::{TEXT, load};
-use lines::Writing;
 use std::alloc::{AllocError, Global};
 use std::rt::Files;
 
@@ -24,8 +23,8 @@ fn on_one_line(alloc: Global, text: &[u8]) -> Result<String, AllocError> {
 pub(crate) fn sheet(alloc: Global, book: &[u8]) -> Result<String, AllocError> {
     let mut out = [0u8; lines::LONGEST];
     match lines::sheet(book, &mut out) {
-        Writing::Written(length) => on_one_line(alloc, &out[..length.min(lines::LONGEST)]),
-        Writing::TooShort => String::from_str(alloc, "too short"),
+        Ok(length) => on_one_line(alloc, &out[..length.min(lines::LONGEST)]),
+        Err(_) => String::from_str(alloc, "too short"),
     }
 }
 
@@ -33,8 +32,8 @@ pub(crate) fn sheet(alloc: Global, book: &[u8]) -> Result<String, AllocError> {
 fn printed(book: &[u8], wanted: &[u8]) -> bool {
     let mut out = [0u8; lines::LONGEST];
     match lines::sheet(book, &mut out) {
-        Writing::Written(length) => &out[..length.min(lines::LONGEST)] == wanted,
-        Writing::TooShort => false,
+        Ok(length) => &out[..length.min(lines::LONGEST)] == wanted,
+        Err(_) => false,
     }
 }
 
@@ -57,7 +56,7 @@ pub(crate) fn prints(
 pub(crate) fn short(alloc: Global, book: &[u8]) -> Result<String, AllocError> {
     let mut out = [7u8; 23231];
     match lines::sheet(book, &mut out) {
-        Writing::Written(_) => String::from_str(alloc, "written"),
-        Writing::TooShort => format!(in alloc; "too short {} {}", out[0], out[23230]),
+        Ok(_) => String::from_str(alloc, "written"),
+        Err(_) => format!(in alloc; "too short {} {}", out[0], out[23230]),
     }
 }

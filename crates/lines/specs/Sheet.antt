@@ -12,8 +12,7 @@ use Rattle.questions.specs.Replied.{policy_answer_of}
 use Rattle.book.specs.Faults.{fault_number}
 use Rattle.book.specs.Reading.{read_of}
 use Rattle.book.specs.Parts.{accounts_in, policy_count_of, policy_at}
-use Rattle.lines.specs.declared.Writing.{Writing}
-use Rattle.lines.specs.declared.Writing.TheVariants.{Written, TooShort}
+use Rattle.lines.specs.declared.TooShort.{TooShort}
 use Rattle.lines.specs.Lines.{line_of, bad_line}
 use Rattle.book.specs.declared.Starts.{Starts}
 use Rattle.book.specs.declared.FaultAt.{FaultAt}
@@ -66,6 +65,6 @@ enough = 1093
 
 -- What is promised: where the buffer is long enough for any sheet, this book's sheet stands at its front, and the rest of it is as it was; a
 -- shorter buffer is answered as too short and is as it was.
-pub record Promised (book old new : List ℕ) (r : Writing) : Type 0 where
-  pub written : longest ≤ length old → (r ≡ Written (length (sheet_of book))) × (new ≡ sheet_of book ++ drop (length (sheet_of book)) old)
-  pub short : length old < longest → (r ≡ TooShort) × (new ≡ old)
+pub record Promised (book old new : List ℕ) (r : Result ℕ TooShort) : Type 0 where
+  pub written : longest ≤ length old → (r ≡ Ok (length (sheet_of book))) × (new ≡ sheet_of book ++ drop (length (sheet_of book)) old)
+  pub short : length old < longest → (r ≡ Err (record { })) × (new ≡ old)

@@ -23,12 +23,9 @@ pub const ENOUGH: usize = 1093;
 // The units that each policy may take.
 pub const ALLOWANCE: u32 = 1000000;
 
-// What asking for a sheet comes to: how many bytes of the buffer it takes, or that the buffer is shorter than a sheet can be.
-#[derive(Clone, Copy)]
-pub enum Writing {
-    Written(usize),
-    TooShort,
-}
+// The buffer is shorter than a sheet, or whatever was asked for, can be.
+#[derive(Clone, Copy, Debug, PartialEq, Eq)]
+pub struct TooShort;
 
 // A verdict's word; nothing for one that has none.
 fn verdict_word(out: &mut [u8], at: usize, verdict: Verdict) -> usize
@@ -127,20 +124,16 @@ fn all_lines(book: &[u8], out: &mut [u8]) -> usize
 }
 
 // The sheet of a book at the front of a buffer that is long enough for any.
-pub fn sheet(book: &[u8], out: &mut [u8]) -> Writing
+pub fn sheet(book: &[u8], out: &mut [u8]) -> Result<usize, TooShort>
     ensures sheet { Promised book.now out.old out.new result }
     ensures kept { book.exit.now ≡ book.entry.now }
     ensures limits { (LONGEST ≡ longest) × (ENOUGH ≡ enough) × (ALLOWANCE ≡ allowance) }
 {
     if out.len() < LONGEST {
-        return Writing::TooShort;
+        return Err(TooShort);
     }
     match book::read(book) {
-        Err(refused) => Writing::Written(bad_line(
-            out,
-            refused.fault.number(),
-            refused.place,
-        )),
-        Ok(_) => Writing::Written(all_lines(book, out)),
+        Err(refused) => Ok(bad_line(out, refused.fault.number(), refused.place)),
+        Ok(_) => Ok(all_lines(book, out)),
     }
 }

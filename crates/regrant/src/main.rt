@@ -2,7 +2,6 @@
 // holds 10 alone, gets to hold 10 and 20; the sheet is printed before and after.
 #![tactic(auto)]
 
-use lines::Writing;
 use roster::Policy;
 use std::io;
 use values::NotWritten;
@@ -29,8 +28,8 @@ fn front(bytes: &[u8], length: usize) -> &[u8] {
 fn show_sheet(rt: &impl Print, book: &[u8]) -> io::Result<()> {
     let mut text = [0u8; lines::LONGEST];
     match lines::sheet(book, &mut text) {
-        Writing::Written(length) => rt.write_all(front(&text, length)),
-        Writing::TooShort => Ok(()),
+        Ok(length) => rt.write_all(front(&text, length)),
+        Err(_) => Ok(()),
     }
 }
 

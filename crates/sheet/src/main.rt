@@ -9,7 +9,6 @@ ghost use Rattle.input.specs.Input.{Settled};
 ghost use Rattle.output.specs.Says.{Says};
 ghost use Rattle.sheet.specs.Said.{stream_of, text_of};
 
-use lines::Writing;
 use output::{Said, Stream};
 use std::io;
 
@@ -21,10 +20,7 @@ fn answer(book: &[u8], input: io::Result<usize>, out: &mut [u8]) -> Said
     let Ok(size) = input else {
         return output::complaint(b"sheet: standard input cannot be read\n", out);
     };
-    let length = match lines::sheet(&book[..size], out) {
-        Writing::Written(length) => length,
-        Writing::TooShort => 0,
-    };
+    let length = lines::sheet(&book[..size], out).unwrap_or(0);
     Said {
         stream: Stream::Output,
         length,

@@ -22,9 +22,9 @@ fn answer(book: &[u8], input: io::Result<usize>, out: &mut [u8]) -> Said
         return output::complaint(b"book: standard input cannot be read\n", out);
     };
     let length = match table::show(&book[..size], out) {
-        Shown::Table(length) => length,
-        Shown::Bad(length) => length,
-        Shown::TooShort => 0,
+        Ok(Shown::Table(length)) => length,
+        Ok(Shown::Bad(length)) => length,
+        Err(_) => 0,
     };
     Said {
         stream: Stream::Output,

@@ -15,6 +15,7 @@ use Rattle.table.specs.Making.{BookOf, IsMade, MakesOf}
 use Rattle.table.specs.declared.Shown.{Shown}
 use Rattle.table.specs.declared.Shown.TheVariants as shown
 use Rattle.table.specs.declared.Trouble.{Trouble}
+use Rattle.lines.specs.declared.TooShort.{TooShort}
 use Rattle.table.specs.declared.NotMade.{NotMade}
 use Rattle.table.specs.declared.NotMade.TheVariants.{Wrong}
 use Rattle.book.specs.declared.FaultAt.{FaultAt}
@@ -69,13 +70,16 @@ shown_good : (book : List ℕ) (s : Starts) → read_of book ≡ Ok s → shown_
 unfolding shown_of shown_by
 shown_good book s e = ap (shown_by book) e
 
-pub is_book : (book old new text : List ℕ) (r : Shown) (n : ℕ) → Shows book old new r → r ≡ shown.Table n → take n new ≡ text → BookOf text book
+abbrev ready : Shown → Result Shown TooShort
+ready s = Ok s
+
+pub is_book : (book old new text : List ℕ) (r : Result Shown TooShort) (n : ℕ) → Shows book old new r → r ≡ Ok (shown.Table n) → take n new ≡ text → BookOf text book
 is_book book old new text r n s t same = go (dec_lt (length old) longest)
   where
     good : longest ≤ length old → (rd : Result Starts FaultAt) → read_of book ≡ rd → BookOf text book
     good long (Ok starts) e =
         let w = s.written long in
-        let q : r ≡ shown.Table (length (shown_of book)) = w.0 ∙ ap (λ (x : Result Starts FaultAt). shown_as x (length (shown_of book))) e in
+        let q : r ≡ Ok (shown.Table (length (shown_of book))) = w.0 ∙ ap (λ (x : Result Starts FaultAt). ready (shown_as x (length (shown_of book)))) e in
         let k : n ≡ length (shown_of book) = cc in
         record {
           starts = starts;
@@ -89,7 +93,7 @@ is_book book old new text r n s t same = go (dec_lt (length old) longest)
         }
     good long (Err x) e =
         let w = s.written long in
-        let q : r ≡ shown.Bad (length (shown_of book)) = w.0 ∙ ap (λ (x : Result Starts FaultAt). shown_as x (length (shown_of book))) e in
+        let q : r ≡ Ok (shown.Bad (length (shown_of book))) = w.0 ∙ ap (λ (x : Result Starts FaultAt). ready (shown_as x (length (shown_of book)))) e in
         let z : ◌≡◌ {A = ℕ} 0 1 = cc in
         absurd (omega arith)
 

@@ -7,7 +7,8 @@ use Rattle.book.specs.Parts.{contents_of}
 use Rattle.lines.specs.Lines.{bad_line}
 use Rattle.table.specs.Table.{table_text_of}
 use Rattle.table.specs.declared.Shown.{Shown}
-use Rattle.table.specs.declared.Shown.TheVariants.{Table, Bad, TooShort}
+use Rattle.table.specs.declared.Shown.TheVariants.{Table, Bad}
+use Rattle.lines.specs.declared.TooShort.{TooShort}
 use Rattle.book.specs.declared.Starts.{Starts}
 use Rattle.book.specs.declared.FaultAt.{FaultAt}
 
@@ -30,7 +31,7 @@ longest = 8284
 
 -- What is promised: where the buffer is long enough for any table, the book's stands at its front, or the `bad` line, and the rest of it is as it
 -- was; a shorter buffer is answered as too short and is as it was.
-pub record Shows (book old new : List ℕ) (r : Shown) : Type 0 where
+pub record Shows (book old new : List ℕ) (r : Result Shown TooShort) : Type 0 where
   pub written : longest ≤ length old
-      → (r ≡ shown_as (read_of book) (length (shown_of book))) × (new ≡ shown_of book ++ drop (length (shown_of book)) old)
-  pub short : length old < longest → (r ≡ TooShort) × (new ≡ old)
+      → (r ≡ Ok (shown_as (read_of book) (length (shown_of book)))) × (new ≡ shown_of book ++ drop (length (shown_of book)) old)
+  pub short : length old < longest → (r ≡ Err (record { })) × (new ≡ old)

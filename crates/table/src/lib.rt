@@ -18,6 +18,7 @@ ghost use Rattle.table.specs.declared.NotMade.TheVariants.{Wrong};
 ghost use Rattle.table.specs.declared.What.TheVariants.{NotUnderstood};
 ghost use Rattle.table.specs.Making.{enough, whole, BookOf, MakesOf, Makes};
 
+use lines::TooShort;
 use put::put_table;
 use values::Values;
 
@@ -29,13 +30,11 @@ pub const ENOUGH: usize = 65537;
 // One byte more, to tell a text that is too long.
 const ROOM: usize = 8285;
 
-// What showing a book comes to: so many bytes at the front of the buffer are its table; or they are the `bad` line of a refused book; or the buffer is
-// shorter than a table can be.
+// What is shown of a book: so many bytes at the front of the buffer are its table; or they are the `bad` line of a refused book.
 #[derive(Clone, Copy)]
 pub enum Shown {
     Table(usize),
     Bad(usize),
-    TooShort,
 }
 
 // What is wrong with a table.
@@ -123,21 +122,21 @@ struct Turn {
 }
 
 // The table of a book at the front of a buffer that is long enough for any.
-pub fn show(book: &[u8], out: &mut [u8]) -> Shown
+pub fn show(book: &[u8], out: &mut [u8]) -> Result<Shown, TooShort>
     ensures shown { Shows book.now out.old out.new result }
     ensures kept { book.exit.now ≡ book.entry.now }
     ensures limit { LONGEST ≡ longest }
 {
     if out.len() < LONGEST {
-        return Shown::TooShort;
+        return Err(TooShort);
     }
     match book::read(book) {
-        Err(refused) => Shown::Bad(lines::bad_line(
+        Err(refused) => Ok(Shown::Bad(lines::bad_line(
             out,
             refused.fault.number(),
             refused.place,
-        )),
-        Ok(_) => Shown::Table(put_table(out, 0, values::of_book(book))),
+        ))),
+        Ok(_) => Ok(Shown::Table(put_table(out, 0, values::of_book(book)))),
     }
 }
 
@@ -175,8 +174,8 @@ fn is_shown(book: &[u8], text: &[u8]) -> bool
 {
     let mut table = [0u8; LONGEST];
     match show(book, &mut table) {
-        Shown::Table(length) => length <= LONGEST && &table[..length] == text,
-        Shown::Bad(_) | Shown::TooShort => false,
+        Ok(Shown::Table(length)) => length <= LONGEST && &table[..length] == text,
+        _ => false,
     }
 }
 

@@ -6,7 +6,6 @@
 mod words;
 
 use accounts::Accounts;
-use lines::Writing;
 use questions::Way;
 use reasons::Explanation;
 use roster::{Policy, Table, Verdict};
@@ -119,10 +118,7 @@ fn all_lines(book: &[u8], out: &mut [u8]) -> usize {
 fn said(book: &[u8], out: &mut [u8]) -> usize {
     match book::read(book) {
         Ok(_) => all_lines(book, out),
-        Err(_) => match lines::sheet(book, out) {
-            Writing::Written(length) => length,
-            Writing::TooShort => 0,
-        },
+        Err(_) => lines::sheet(book, out).unwrap_or(0),
     }
 }
 

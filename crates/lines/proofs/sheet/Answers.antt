@@ -15,7 +15,7 @@ use Rattle.book.specs.Parts.{policy_count_of}
 use Rattle.book.specs.Promises.{Bytes}
 use Rattle.book.specs.declared.Fault.{Fault}
 use Rattle.book.specs.declared.Starts.{Starts}
-use Rattle.lines.specs.declared.Writing.TheVariants.{Written}
+use Rattle.lines.specs.declared.TooShort.{TooShort}
 use Rattle.text.specs.Text.{Room, Appended}
 use Rattle.lines.specs.Lines.{bad_line}
 use Rattle.lines.specs.Sheet.{lines_from, sheet_by, sheet_of, longest, Promised}
@@ -24,14 +24,17 @@ use Rattle.text.specs.Laws.Appends.{read_as, all_stand, all_past}
 use Rattle.lines.proofs.sheet.Goals as goal
 use Rattle.book.specs.declared.FaultAt.{FaultAt}
 
+abbrev so_many : ℕ → Result ℕ TooShort
+so_many n = Ok n
+
 module _ (book old : List ℕ) (bytes : Bytes book) (long : longest ≤ length old) where
   roomy : Room (sheet_of book) old 0
   roomy = omega (arith, sheet_fits book bytes)
 
-  promised : (new : List ℕ) (n : ℕ) → Appended (sheet_of book) old 0 new n → Promised book old new (Written n)
+  promised : (new : List ℕ) (n : ℕ) → Appended (sheet_of book) old 0 new n → Promised book old new (Ok n)
   promised new n a = record {
     written = λ h. (
-      ap Written (all_past roomy a ∙ front),
+      ap so_many (all_past roomy a ∙ front),
       all_stand roomy a ∙ sets-eq (sheet_of book) old 0 roomy ∙ ap (λ (k : ℕ). sheet_of book ++ drop k old) front,
     );
     short = λ h. absurd (omega arith);

@@ -4,8 +4,7 @@ use mathlib.Core.List.{List}
 use Prim.Native.Nat.{ℕ, ◌≤◌}
 use native.Mathlib.Omega.{arith}
 use lib.ListN.{length, take}
-use Rattle.lines.specs.declared.Writing.{Writing}
-use Rattle.lines.specs.declared.Writing.TheVariants.{Written}
+use Rattle.lines.specs.declared.TooShort.{TooShort}
 use Rattle.lines.specs.Sheet.{sheet_of, longest, Promised}
 use Rattle.std.proofs.Common.{Result, Ok, Err}
 use Rattle.output.specs.declared.Said.{Said}
@@ -15,7 +14,7 @@ use Rattle.sheet.specs.Said.{unreadable, stream_of, text_of}
 use Rattle.sheet.proofs.answer.Goals as goal
 
 -- what `lines::sheet` promises of a buffer that is long enough
-written : (book old new : List ℕ) (w : Writing) → Promised book old new w → longest ≤ length old → (n : ℕ) → w ≡ Written n
+written : (book old new : List ℕ) (w : Result ℕ TooShort) → Promised book old new w → longest ≤ length old → (n : ℕ) → w ≡ Ok n
     → Says output (sheet_of book) old new (record { stream = output; length = n })
 written book old new w p long n e = record { on = refl; long = cc (p.written long).0; front = (p.written long).1 }
 
@@ -33,5 +32,7 @@ whole {E} buffer old new input n r e s = subst (λ (p : Result ℕ E). Says (str
 pub returns-in_default : goal.returns-in_default
 returns-in_default c = complains _ _ _ _ _ c.in_default.not-Ok (all_said unreadable (omega (arith, c.requires.1)) c.complaint.ensures.said)
 
-pub returns-in-Written : goal.returns-in-Written
-returns-in-Written c = whole _ _ _ _ _ _ c.in-Ok.is (written _ _ _ _ c.sheet.ensures.sheet c.requires.1 _ c.in-Written.is)
+pub returns : goal.returns
+returns c =
+    let long : c.unwrap_or-length.result ≡ length (sheet_of (take c.in-Ok.size c.args.book.now)) = cc (c.sheet.ensures.sheet.written c.requires.1, c.unwrap_or-length.ensures) in
+    ?

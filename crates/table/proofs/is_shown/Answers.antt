@@ -5,5 +5,5 @@ use Rattle.table.proofs.is_shown.Goals as goal
 
 pub returns-then-length-le-LONGEST : goal.returns-then-length-le-LONGEST
 returns-then-length-le-LONGEST c =
-    let same : c.eq.result ≡ true → take c.in-Table.length c.show.new.out ≡ c.args.text.now = search rules in
-    λ e. is_book _ _ _ _ c.show.result c.in-Table.length c.show.ensures.shown c.in-Table.is (same e)
+    let same : c.eq.result ≡ true → take c.in-Ok-Table.length c.show.new.out ≡ c.args.text.now = search rules in
+    λ e. is_book _ _ _ _ c.show.result c.in-Ok-Table.length c.show.ensures.shown c.in-Ok-Table.is (same e)

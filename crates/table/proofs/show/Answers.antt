@@ -16,6 +16,8 @@ use Rattle.values.proofs.Laws.OfBook.{values_of_good}
 use Rattle.values.specs.declared.Values.{Values}
 use Rattle.table.specs.Table.{table_text_of}
 use Rattle.table.specs.Shown.{shown_by, shown_of, shown_as, longest, Shows}
+use Rattle.table.specs.declared.Shown.{Shown}
+use Rattle.lines.specs.declared.TooShort.{TooShort}
 use Rattle.table.specs.Laws.Counted.{book_counted}
 use Rattle.table.proofs.Laws.Length.{shown-fits}
 use Rattle.table.proofs.show.Goals as goal
@@ -24,14 +26,17 @@ use Rattle.book.specs.declared.FaultAt.{FaultAt}
 
 -- ---- a buffer that is long enough
 
+abbrev shown : Shown → Result Shown TooShort
+shown s = Ok s
+
 module _ (book old : List ℕ) (bytes : Bytes book) (long : longest ≤ length old) where
   roomy : Room (shown_of book) old 0
   roomy = omega (arith, shown-fits book bytes)
 
-  promised : (r : Result Starts FaultAt) → r ≡ read_of book → (new : List ℕ) (n : ℕ) → Appended (shown_of book) old 0 new n → Shows book old new (shown_as r n)
+  promised : (r : Result Starts FaultAt) → r ≡ read_of book → (new : List ℕ) (n : ℕ) → Appended (shown_of book) old 0 new n → Shows book old new (Ok (shown_as r n))
   promised r e new n a = record {
     written = λ h. (
-      ap (λ (q : Result Starts FaultAt). shown_as q n) e ∙ ap (shown_as (read_of book)) (all_past roomy a ∙ front),
+      ap (λ (q : Result Starts FaultAt). shown (shown_as q n)) e ∙ ap (λ (k : ℕ). shown (shown_as (read_of book) k)) (all_past roomy a ∙ front),
       all_stand roomy a ∙ sets-eq (shown_of book) old 0 roomy ∙ ap (λ (k : ℕ). shown_of book ++ drop k old) front,
     );
     short = λ h. absurd (omega arith);

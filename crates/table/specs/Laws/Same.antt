@@ -1,11 +1,12 @@
 -- For one book and one buffer one reply and one text are promised. Assumes nothing.
-use Rattle.std.specs.Prelude.{◌≡◌, ℕ, ◌<◌, ◌≤◌, List, length}
+use Rattle.std.specs.Prelude.{◌≡◌, ℕ, ◌<◌, ◌≤◌, List, length, Result}
 use Rattle.std.proofs.Common.{sym, ◌∙◌, arith}
 use Rattle.std.proofs.Math.Decide.{dec_lt}
 use Rattle.table.specs.Shown.{longest, Shows}
 use Rattle.table.specs.declared.Shown.{Shown}
+use Rattle.lines.specs.declared.TooShort.{TooShort}
 
-pub show_same : {book old new new' : List ℕ} {r r' : Shown} → Shows book old new r → Shows book old new' r' → (r ≡ r') × (new ≡ new')
+pub show_same : {book old new new' : List ℕ} {r r' : Result Shown TooShort} → Shows book old new r → Shows book old new' r' → (r ≡ r') × (new ≡ new')
 show_same {old = old} {new} {new'} {r} {r'} p q = go (dec_lt (length old) longest)
   where
     go : Dec (length old < longest) → (r ≡ r') × (new ≡ new')
