@@ -6,7 +6,7 @@ use native.Mathlib.Omega.{arith}
 use lib.ListN.{length, take}
 use Rattle.lines.specs.declared.TooShort.{TooShort}
 use Rattle.lines.specs.Sheet.{sheet_of, longest, Promised}
-use Rattle.std.proofs.Common.{Result, Ok, Err}
+use Rattle.std.proofs.Common.{Result, Ok, Err, MatchResult, rules}
 use Rattle.output.specs.declared.Said.{Said}
 use Rattle.output.specs.Says.{output, errors, Says}
 use Rattle.output.specs.Laws.{all_said}
@@ -14,9 +14,13 @@ use Rattle.sheet.specs.Said.{unreadable, stream_of, text_of}
 use Rattle.sheet.proofs.answer.Goals as goal
 
 -- what `lines::sheet` promises of a buffer that is long enough
-written : (book old new : List ℕ) (w : Result ℕ TooShort) → Promised book old new w → longest ≤ length old → (n : ℕ) → w ≡ Ok n
-    → Says output (sheet_of book) old new (record { stream = output; length = n })
-written book old new w p long n e = record { on = refl; long = cc (p.written long).0; front = (p.written long).1 }
+written : (book old new : List ℕ) (w : Result ℕ TooShort) → Promised book old new w → longest ≤ length old → (n : ℕ)
+    → MatchResult w (λ k. n ≡ k) (λ e. n ≡ 0) → Says output (sheet_of book) old new (record { stream = output; length = n })
+written book old new w p long n m = record {
+  on = refl;
+  long = subst (λ (x : Result ℕ TooShort). MatchResult x (λ k. n ≡ k) (λ e. n ≡ 0)) (p.written long).0 m;
+  front = (p.written long).1;
+}
 
 complains : {E : Type 0} (buffer old new : List ℕ) (input : Result ℕ E) (r : Said) → ((n : ℕ) → input ≡ Ok n → ⊥) → Says errors unreadable old new r
     → Says (stream_of input) (text_of buffer input) old new r
@@ -33,6 +37,4 @@ pub returns-in_default : goal.returns-in_default
 returns-in_default c = complains _ _ _ _ _ c.in_default.not-Ok (all_said unreadable (omega (arith, c.requires.1)) c.complaint.ensures.said)
 
 pub returns : goal.returns
-returns c =
-    let long : c.unwrap_or-length.result ≡ length (sheet_of (take c.in-Ok.size c.args.book.now)) = cc (c.sheet.ensures.sheet.written c.requires.1, c.unwrap_or-length.ensures) in
-    ?
+returns c = whole _ _ _ _ _ _ c.in-Ok.is (written _ _ _ _ c.sheet.ensures.sheet c.requires.1 _ (search rules))
