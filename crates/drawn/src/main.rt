@@ -60,7 +60,11 @@ fn stands(seed: u64, way: Way, added: u8) -> bool {
     let book = drawn(seed);
     let mut other = book.bytes;
     other[0] = other[0].wrapping_add(added);
-    comes_back(front(&book.bytes, book.length), way, front(&other, book.length))
+    comes_back(
+        front(&book.bytes, book.length),
+        way,
+        front(&other, book.length),
+    )
 }
 
 // How many of so many books differ.

@@ -49,10 +49,26 @@ impl Way {
         let plain = Way::plain();
         [
             plain,
-            Way { name: "semicolons", between: b';', ..plain },
-            Way { name: "tabs", between: b'\t', ..plain },
-            Way { name: "carriage returns", returns: true, ..plain },
-            Way { name: "a column of names", named: true, ..plain },
+            Way {
+                name: "semicolons",
+                between: b';',
+                ..plain
+            },
+            Way {
+                name: "tabs",
+                between: b'\t',
+                ..plain
+            },
+            Way {
+                name: "carriage returns",
+                returns: true,
+                ..plain
+            },
+            Way {
+                name: "a column of names",
+                named: true,
+                ..plain
+            },
             Way::mixed(),
         ]
     }

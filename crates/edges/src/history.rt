@@ -33,7 +33,12 @@ fn holders(alloc: Global, roster: &Roster, permission: u64) -> Result<String, Al
 fn policy(alloc: Global, roster: Roster, line: &str) -> Result<String, AllocError> {
     let asked = listed::policy_at(line, 2);
     let [allowance] = numbers::<1>(line, 10);
-    let reply = live::ask(listed::way_of(word(line, 1)), roster, asked, narrow(allowance));
+    let reply = live::ask(
+        listed::way_of(word(line, 1)),
+        roster,
+        asked,
+        narrow(allowance),
+    );
     format!(in alloc; "{}", Masks(reply))
 }
 

@@ -128,7 +128,11 @@ fn with_touched(line: &mut String, bytes: &[u8; ROOM], from: usize) -> Result<()
 }
 
 // What came of writing, and what the buffer then has.
-fn told(alloc: Global, wrote: Result<usize, NotWritten>, bytes: &[u8; ROOM]) -> Result<String, AllocError> {
+fn told(
+    alloc: Global,
+    wrote: Result<usize, NotWritten>,
+    bytes: &[u8; ROOM],
+) -> Result<String, AllocError> {
     match wrote {
         Ok(length) => {
             let mut line = format!(in alloc; "written {length}")?;
@@ -165,9 +169,7 @@ pub(crate) fn again(alloc: Global, book: &[u8]) -> Result<String, AllocError> {
     let mut bytes = [BEFORE; ROOM];
     let wrote = values::write(values::of_book(book), &mut bytes);
     match wrote {
-        Ok(length) if is_book(book, length, &bytes) => format!(in alloc;
-            "same {length}"
-        ),
+        Ok(length) if is_book(book, length, &bytes) => format!(in alloc; "same {length}"),
         _ => told(alloc, wrote, &bytes),
     }
 }

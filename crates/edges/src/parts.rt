@@ -5,10 +5,7 @@ use std::alloc::{AllocError, Global};
 // The row with this number, by the view: its staff number, its person number and its holdings.
 pub(crate) fn row(alloc: Global, book: &[u8], row: u64) -> Result<String, AllocError> {
     match book::row_by_number(book, row as usize) {
-        Some(found) => format!(in alloc;
-            "{} {} {}",
-            found.staff, found.person, found.holdings
-        ),
+        Some(found) => format!(in alloc; "{} {} {}", found.staff, found.person, found.holdings),
         None => String::from_str(alloc, "none"),
     }
 }

@@ -67,4 +67,4 @@ enough = 1093
 -- shorter buffer is answered as too short and is as it was.
 pub record Promised (book old new : List ℕ) (r : Result ℕ TooShort) : Type 0 where
   pub written : longest ≤ length old → (r ≡ Ok (length (sheet_of book))) × (new ≡ sheet_of book ++ drop (length (sheet_of book)) old)
-  pub short : length old < longest → (r ≡ Err (record { })) × (new ≡ old)
+  pub short : length old < longest → (r ≡ Err (record {})) × (new ≡ old)

@@ -11,9 +11,8 @@ ghost use Rattle.live.specs.Numbers.{objection_number};
 ghost use Rattle.live.specs.Changes.{hire, leave, grant, revoke, told_of, empty, refusing, done, gathered_of, table_of};
 ghost use Rattle.live.specs.Changes.{place_of, free_in, hired_at, cleared_of, left_at, granted_at, revoked_at, turned_at, changed_by};
 
-use roster::{Policy, Reply, Table};
-
 pub use absences::Way;
+use roster::{Policy, Reply, Table};
 
 // Who stands at which place: bit i of `occupied` says that place i is taken. A place that is not has staff number 0 and holdings 0, and stands
 // in no set of `holders`. The arrays stay beside each other, since `Agrees` and the calls of specs/Changes speak of each by its name.

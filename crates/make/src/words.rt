@@ -27,8 +27,10 @@ fn place(out: &mut [u8], at: usize, line: usize, column: usize) -> usize {
 fn of_table(what: What) -> &'static str {
     match what {
         What::TooLong => "the table has more than 65,536 bytes",
-        What::NoTable => "there is nothing but empty cells: the heading of the rows has to begin with staff",
-        What::NoPolicies => "the policies are missing: after the rows an empty line has to follow, and a heading that begins with s, d and t",
+        What::NoTable =>
+            "there is nothing but empty cells: the heading of the rows has to begin with staff",
+        What::NoPolicies =>
+            "the policies are missing: after the rows an empty line has to follow, and a heading that begins with s, d and t",
         What::NotUnderstood => "this is not understood as the table of a book",
         _ => of_codes(what),
     }
@@ -38,10 +40,13 @@ fn of_table(what: What) -> &'static str {
 fn of_codes(what: What) -> &'static str {
     match what {
         What::NoStaff => "the heading of the rows has to begin with staff",
-        What::NoCode => "neither a permission code, a number of 0 to 65535 without spaces and without a 0 in front, nor the heading of a column for people, which begins with #",
+        What::NoCode =>
+            "neither a permission code, a number of 0 to 65535 without spaces and without a 0 in front, nor the heading of a column for people, which begins with #",
         What::CodeTwice => "this permission code stands twice",
-        What::CodeOrder => "permission codes have to ascend, and this one is lower than the one before",
-        What::NoPermission => "there is no permission: the heading has to go on with at least one code",
+        What::CodeOrder =>
+            "permission codes have to ascend, and this one is lower than the one before",
+        What::NoPermission =>
+            "there is no permission: the heading has to go on with at least one code",
         What::TooManyPermissions => "more than 32 permissions",
         _ => of_row(what),
     }
@@ -49,10 +54,13 @@ fn of_codes(what: What) -> &'static str {
 
 fn of_row(what: What) -> &'static str {
     match what {
-        What::Staff => "no staff number: it has to be a number of 0 to 4294967295, without spaces and without a 0 in front",
+        What::Staff =>
+            "no staff number: it has to be a number of 0 to 4294967295, without spaces and without a 0 in front",
         What::StaffTwice => "this staff number stands twice",
-        What::StaffOrder => "staff numbers have to ascend, and this one is lower than the one before",
-        What::Person => "no person number: it has to be a number of 0 to 4294967295, without spaces and without a 0 in front",
+        What::StaffOrder =>
+            "staff numbers have to ascend, and this one is lower than the one before",
+        What::Person =>
+            "no person number: it has to be a number of 0 to 4294967295, without spaces and without a 0 in front",
         What::TooManyRows => "more than 64 rows",
         What::NoGap => "an empty line has to stand before the heading of the policies",
         _ => of_columns(what),

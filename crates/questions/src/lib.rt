@@ -5,10 +5,9 @@
 
 ghost use Rattle.questions.specs.Asked.{PolicyAskedFor, NamedAskedFor};
 
+pub use absences::Way;
 use accounts::Accounts;
 use roster::{Policy, Reply};
-
-pub use absences::Way;
 
 // The policy question, by this search.
 pub fn ask(way: Way, accounts: Accounts, policy: Policy, allowance: u32) -> Reply

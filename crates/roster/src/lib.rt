@@ -71,7 +71,13 @@ impl Policy {
     pub const EDITIONS: u32 = 2;
 
     // The policy, or the first of its own faults.
-    pub fn new(task: u32, away: u32, crews: usize, size: u32, edition: u32) -> Result<Policy, Refusal>
+    pub fn new(
+        task: u32,
+        away: u32,
+        crews: usize,
+        size: u32,
+        edition: u32,
+    ) -> Result<Policy, Refusal>
         ensures made { result ≡ made_of task away crews size edition }
         ensures rows { Policy.ROWS ≡ row_limit }
         ensures away { Policy.AWAY ≡ away_limit }
@@ -195,7 +201,14 @@ pub fn least_members(edition: u32) -> u32
 
 // The first fault of these numbers.
 #[tactic(auto, unfolding(crate::specs::Refusals::policy_ruling))]
-fn first_fault(rows: usize, task: u32, away: u32, crews: usize, size: u32, edition: u32) -> Result<(), Refusal>
+fn first_fault(
+    rows: usize,
+    task: u32,
+    away: u32,
+    crews: usize,
+    size: u32,
+    edition: u32,
+) -> Result<(), Refusal>
     ensures { result ≡ policy_ruling rows task away crews size edition }
 {
     if rows > Policy::ROWS {

@@ -34,4 +34,4 @@ longest = 8284
 pub record Shows (book old new : List ℕ) (r : Result Shown TooShort) : Type 0 where
   pub written : longest ≤ length old
       → (r ≡ Ok (shown_as (read_of book) (length (shown_of book)))) × (new ≡ shown_of book ++ drop (length (shown_of book)) old)
-  pub short : length old < longest → (r ≡ Err (record { })) × (new ≡ old)
+  pub short : length old < longest → (r ≡ Err (record {})) × (new ≡ old)

@@ -14,10 +14,7 @@ pub(crate) fn piece(text: &[u8], at: usize, mark: u8) -> Piece
 {
     for end in at..text.len() {
         if text[end] == mark {
-            return Piece {
-                end,
-                next: end + 1,
-            };
+            return Piece { end, next: end + 1 };
         }
     }
     Piece {

@@ -131,11 +131,7 @@ pub fn show(book: &[u8], out: &mut [u8]) -> Result<Shown, TooShort>
         return Err(TooShort);
     }
     match book::read(book) {
-        Err(refused) => Ok(Shown::Bad(lines::bad_line(
-            out,
-            refused.fault.number(),
-            refused.place,
-        ))),
+        Err(refused) => Ok(Shown::Bad(lines::bad_line(out, refused.fault.number(), refused.place))),
         Ok(_) => Ok(Shown::Table(put_table(out, 0, values::of_book(book)))),
     }
 }

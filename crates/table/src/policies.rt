@@ -66,8 +66,7 @@ pub(crate) fn read_policy_cell(
     match (draft.line.cells, draft.values.form) {
         (0, _) => draft.line.policy.away = number_cell(draft, column, cell, 0, 64, What::Away)?,
         (1, _) => {
-            draft.line.policy.crews =
-                number_cell(draft, column, cell, 1, 8, What::Crews)? as usize;
+            draft.line.policy.crews = number_cell(draft, column, cell, 1, 8, What::Crews)? as usize;
         }
         (2, _) => draft.line.policy.size = number_cell(draft, column, cell, 1, 64, What::Size)?,
         (3, Form::Editions) => {

@@ -8,7 +8,11 @@ use values::Values;
 
 // Whether the code is listed.
 pub(crate) fn has_code(values: &Values, code: u16) -> bool {
-    values.codes.iter().take(values.code_count).any(|listed| *listed == code)
+    values
+        .codes
+        .iter()
+        .take(values.code_count)
+        .any(|listed| *listed == code)
 }
 
 // The code before the next; 0 for the first.
@@ -57,7 +61,11 @@ pub(crate) fn read_row_heading(
 
 // Whether a row has this staff number.
 fn has_staff(values: &Values, staff: u32) -> bool {
-    values.rows.iter().take(values.row_count).any(|row| row.staff == staff)
+    values
+        .rows
+        .iter()
+        .take(values.row_count)
+        .any(|row| row.staff == staff)
 }
 
 // The staff number of the row before; 0 for the first row.

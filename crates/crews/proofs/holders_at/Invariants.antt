@@ -13,4 +13,3 @@ holding holds p u = hasb (at holds u) p
 
 abbrev pub invariant-loop-row : goal.invariant-loop-row
 invariant-loop-row l = (l.row ≤ 64) × (l.set ≡ set_of l.row (holding l.holds l.permission))
-

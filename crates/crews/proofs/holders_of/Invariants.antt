@@ -6,4 +6,3 @@ use Rattle.crews.proofs.holders_of.Given as goal
 
 abbrev pub invariant-loop-permission : goal.invariant-loop-permission
 invariant-loop-permission l = Passed 0 32 (holders_of (at l.holds)) l.permission l.holders
-

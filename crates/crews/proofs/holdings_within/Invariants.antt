@@ -5,4 +5,3 @@ use Rattle.crews.proofs.holdings_within.Given as goal
 
 abbrev pub invariant-loop-row : goal.invariant-loop-row
 invariant-loop-row l = Passed 0 64 (holds_of (record { holdings = l.holdings; rows = l.rows }) l.task) l.row l.within
-

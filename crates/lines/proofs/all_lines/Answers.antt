@@ -41,8 +41,8 @@ loop-index-preserved c = let l = c.loop-index in
     let book = c.args.book.now in
     let count = c.policy_count-count.result in
     with_rest (ap (λ (k : ℕ). lines_from book k (count - k)) (sym (add-one l.index)))
-        (step (line_by book l.index (policy_at book l.index)) (with_rest (next book l.index count c.loop-index-test.true) l.invariant)
-        c.policy_line-at.ensures)
+    (step (line_by book l.index (policy_at book l.index)) (with_rest (next book l.index count c.loop-index-test.true) l.invariant)
+    c.policy_line-at.ensures)
 
 pub returns : goal.returns
 returns c = let l = c.loop-index in

@@ -12,7 +12,7 @@ pub loop-i-preserved : goal.loop-i-preserved
 loop-i-preserved c = let l = c.loop-i in
     let a = c.args in
     step _ (with_rest (order_next (entry a.editions a.contents) l.i a.contents.policy_count c.loop-i-test.true) l.invariant)
-        (read_as (ap (λ (p : Policy). line (policy_cells a.editions a.contents.code_count p)) c.policy_in.ensures) c.put_policy-next.ensures)
+    (read_as (ap (λ (p : Policy). line (policy_cells a.editions a.contents.code_count p)) c.policy_in.ensures) c.put_policy-next.ensures)
 
 pub returns : goal.returns
 returns c = let l = c.loop-i in

@@ -12,7 +12,7 @@ pub loop-i-preserved : goal.loop-i-preserved
 loop-i-preserved c = let l = c.loop-i in
     let a = c.args in
     step _ (with_rest (order_next (entry a.persons a.contents) l.i a.contents.row_count c.loop-i-test.true) l.invariant)
-        (read_as (ap (λ (row : Row). line (row_cells a.persons a.contents.code_count row)) c.row_in.ensures) c.put_row-next.ensures)
+    (read_as (ap (λ (row : Row). line (row_cells a.persons a.contents.code_count row)) c.row_in.ensures) c.put_row-next.ensures)
 
 pub returns : goal.returns
 returns c = let l = c.loop-i in
