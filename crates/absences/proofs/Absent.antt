@@ -16,7 +16,7 @@ use Rattle.crews.specs.declared.Ending.TheVariants as ending
 use Rattle.crews.specs.declared.Filled.{Filled}
 use Rattle.crews.specs.Filling.{Outcome, orderly, holders_of, filling}
 use Rattle.sets.specs.Arrays.{tabulate, at}
-use Rattle.crews.specs.Filled.{filled_of, found_from}
+use Rattle.crews.specs.Filled.{filled_of, found_from, rule_of}
 use Rattle.crews.proofs.Laws.Arrays.{lent_filling}
 use Rattle.crews.proofs.Laws.Steps as steps
 use Rattle.absences.specs.declared.Search.{Search}
@@ -27,15 +27,14 @@ use Rattle.absences.proofs.Laws.Weighed.{weighed-fits, weighed_blocks, weighed-n
 use Rattle.absences.proofs.Spent.{walked_fits, walked_over}
 
 -- filling from what is lent is 01's filling with A absent
-pub fills : (table : Table) (s : Search) → Lent table s → (free A least : ℕ) → free ≡ bit_and s.everyone ((2 ^ row_limit - 1) - A)
-    → least ≡ least_members s.edition
-    → found_from (orderly (at s.holds) (at s.holders) s.task s.crews s.size least) free ≡ filling table s.task s.crews s.size s.edition A
-fills table s lent free A least e two =
-    ap (λ (m : ℕ). found_from (orderly (at s.holds) (at s.holders) s.task s.crews s.size m) free) two
-    ∙ ap₂ (λ (h k : List ℕ). found_from (orderly (at h) (at k) s.task s.crews s.size (least_members s.edition)) free) lent.held
+pub fills : (table : Table) (ed : ℕ) (s : Search) → Lent table ed s → (free A : ℕ) → free ≡ bit_and s.everyone ((2 ^ row_limit - 1) - A)
+    → found_from (rule_of s.wanted) free ≡ filling table s.wanted.task s.wanted.crews s.wanted.size ed A
+fills table ed s lent free A e =
+    ap (λ (m : ℕ). found_from (orderly (at s.wanted.holds) (at s.wanted.holders) s.wanted.task s.wanted.crews s.wanted.size m) free) lent.least
+    ∙ ap₂ (λ (h k : List ℕ). found_from (orderly (at h) (at k) s.wanted.task s.wanted.crews s.wanted.size (least_members ed)) free) lent.held
     (lent.holding ∙ ap (λ (h : List ℕ). tabulate 32 (holders_of (at h))) lent.held)
     ∙ ap (found_from _) (e ∙ ap (λ (all : ℕ). bit_and all ((2 ^ row_limit - 1) - A)) lent.everyone)
-    ∙ lent_filling table s.task s.crews s.size s.edition A lent.small lent.some lent.wide lent.few
+    ∙ lent_filling table s.wanted.task s.wanted.crews s.wanted.size ed A lent.small lent.some lent.wide lent.few
 
 -- whether it blocks or not
 alone_costs : (table : Table) (P d t ed A : ℕ) → (weighed (filling table P d t ed) (A ∷ [])).need ≡ units_of (filling table P d t ed A)

@@ -52,59 +52,59 @@ reply_told most w r crews e = go (judge most 0 w r e)
     go (is_over l q) = told q ∙ ap says (sym (verdict_late w most (omega arith)))
 
 -- the first absence tried is that of nobody, and `first` is what its filling says
-module _ (way : Way) (table : Table) (s : Search) (most : ℕ) (first : Filled)
-    (e : first ≡ filled_of s.allowance per_absence (filling table s.task s.crews s.size s.edition 0)) (nobody : Result ℕ Stop)
+module _ (way : Way) (table : Table) (ed : ℕ) (s : Search) (most : ℕ) (first : Filled)
+    (e : first ≡ filled_of s.wanted.allowance per_absence (filling table s.wanted.task s.wanted.crews s.wanted.size ed 0)) (nobody : Result ℕ Stop)
     (f : nobody ≡ walked_from first.ending 0 first.units) where
   abbrev tries : List ℕ → Found
-  tries = weighed (filling table s.task s.crews s.size s.edition)
+  tries = weighed (filling table s.wanted.task s.wanted.crews s.wanted.size ed)
 
   abbrev rest : List ℕ
-  rest = sizes_to way table s.task most
+  rest = sizes_to way table s.wanted.task most
 
   abbrev crews : List ℕ
-  crews = (filling table s.task s.crews s.size s.edition 0).crews
+  crews = (filling table s.wanted.task s.wanted.crews s.wanted.size ed 0).crews
 
-  alone : nobody ≡ walked_of s.allowance 0 (tries (0 ∷ []))
-  alone = f ∙ absent_told table s.task s.crews s.size s.edition s.allowance 0 0 first e
+  alone : nobody ≡ walked_of s.wanted.allowance 0 (tries (0 ∷ []))
+  alone = f ∙ absent_told table s.wanted.task s.wanted.crews s.wanted.size ed s.wanted.allowance 0 0 first e
 
   both : tries (0 ∷ rest) ≡ and_then (tries (0 ∷ [])) (tries rest)
-  both = weighed-append (filling table s.task s.crews s.size s.edition) (0 ∷ []) rest
+  both = weighed-append (filling table s.wanted.task s.wanted.crews s.wanted.size ed) (0 ∷ []) rest
 
   -- the reply from r, if r is what all absences come to
-  whole : (r : Result ℕ Stop) → r ≡ walked_of s.allowance 0 (and_then (tries (0 ∷ [])) (tries rest))
-      → reply_from crews s.allowance r ≡ searched_by way table s most
-  whole r h = reply_told s.allowance (tries (0 ∷ rest)) r crews (h ∙ ap (walked_of s.allowance 0) (sym both))
+  whole : (r : Result ℕ Stop) → r ≡ walked_of s.wanted.allowance 0 (and_then (tries (0 ∷ [])) (tries rest))
+      → reply_from crews s.wanted.allowance r ≡ searched_by way table ed s most
+  whole r h = reply_told s.wanted.allowance (tries (0 ∷ rest)) r crews (h ∙ ap (walked_of s.wanted.allowance 0) (sym both))
 
   -- unless the allowance is spent the filling has the first list, or none
   crews-first : nobody ≢ Err Undecided → first.crews ≡ crews
-  crews-first n = go (steps.judge s.allowance per_absence (filling table s.task s.crews s.size s.edition 0) first e)
+  crews-first n = go (steps.judge s.wanted.allowance per_absence (filling table s.wanted.task s.wanted.crews s.wanted.size ed 0) first e)
     where
-      has : per_absence + (filling table s.task s.crews s.size s.edition 0).need ≤ s.allowance → first.crews ≡ crews
-      has h = ap (λ (x : Filled). x.crews) (e ∙ steps.filled-fits s.allowance per_absence (filling table s.task s.crews s.size s.edition 0) h)
+      has : per_absence + (filling table s.wanted.task s.wanted.crews s.wanted.size ed 0).need ≤ s.wanted.allowance → first.crews ≡ crews
+      has h = ap (λ (x : Filled). x.crews) (e ∙ steps.filled-fits s.wanted.allowance per_absence (filling table s.wanted.task s.wanted.crews s.wanted.size ed 0) h)
 
-      go : steps.Judged s.allowance per_absence (filling table s.task s.crews s.size s.edition 0) first → first.crews ≡ crews
+      go : steps.Judged s.wanted.allowance per_absence (filling table s.wanted.task s.wanted.crews s.wanted.size ed 0) first → first.crews ≡ crews
       go (steps.is_complete b w h) = has h
       go (steps.is_exhausted b w u l) = has (omega arith)
       go (steps.is_over h w) = absurd (n (f ∙ ap (λ (z : Ending). walked_from z 0 first.units) w))
 
   -- the reply is the same from the crews that the filling has as from the first list: where they differ, it has no crews
-  with_first : (r : Result ℕ Stop) → ((r ≡ Err Undecided) ⊎ (nobody ≢ Err Undecided)) → reply_from first.crews s.allowance r ≡ reply_from crews s.allowance r
+  with_first : (r : Result ℕ Stop) → ((r ≡ Err Undecided) ⊎ (nobody ≢ Err Undecided)) → reply_from first.crews s.wanted.allowance r ≡ reply_from crews s.wanted.allowance r
   with_first r (inl q) = rw q
-  with_first r (inr n) = ap (λ (c : List ℕ). reply_from c s.allowance r) (crews-first n)
+  with_first r (inr n) = ap (λ (c : List ℕ). reply_from c s.wanted.allowance r) (crews-first n)
 
-  pub within_first : (n : ℕ) → nobody ≡ Ok n → n ≤ s.allowance
-  within_first n o = (turn_open s.allowance 0 (tries (0 ∷ [])) (tries rest) nobody alone n o).1
+  pub within_first : (n : ℕ) → nobody ≡ Ok n → n ≤ s.wanted.allowance
+  within_first n o = (turn_open s.wanted.allowance 0 (tries (0 ∷ [])) (tries rest) nobody alone n o).1
 
-  pub all_open : (r : Result ℕ Stop) (n : ℕ) → nobody ≡ Ok n → r ≡ walked_by table s n rest
-      → reply_from first.crews s.allowance r ≡ searched_by way table s most
+  pub all_open : (r : Result ℕ Stop) (n : ℕ) → nobody ≡ Ok n → r ≡ walked_by table ed s n rest
+      → reply_from first.crews s.wanted.allowance r ≡ searched_by way table ed s most
   all_open r n o h =
       with_first r (inr (λ q. goes_stops o q))
-      ∙ whole r (h ∙ sym (turn_open s.allowance 0 (tries (0 ∷ [])) (tries rest) nobody alone n o).0)
+      ∙ whole r (h ∙ sym (turn_open s.wanted.allowance 0 (tries (0 ∷ [])) (tries rest) nobody alone n o).0)
 
-  pub all_stopped : (stop : Stop) → nobody ≡ Err stop → reply_from first.crews s.allowance nobody ≡ searched_by way table s most
+  pub all_stopped : (stop : Stop) → nobody ≡ Err stop → reply_from first.crews s.wanted.allowance nobody ≡ searched_by way table ed s most
   all_stopped stop o =
       with_first nobody (spent stop o)
-      ∙ whole nobody (turn_stopped s.allowance 0 (tries (0 ∷ [])) (tries rest) nobody alone stop o)
+      ∙ whole nobody (turn_stopped s.wanted.allowance 0 (tries (0 ∷ [])) (tries rest) nobody alone stop o)
     where
       spent : (x : Stop) → nobody ≡ Err x → (nobody ≡ Err Undecided) ⊎ (nobody ≢ Err Undecided)
       spent Undecided q = inl q

@@ -5,7 +5,9 @@ use Rattle.roster.specs.Replies.{no_crews}
 use Rattle.crews.specs.declared.Ending.{Ending}
 use Rattle.crews.specs.declared.Ending.TheVariants.{Complete, Exhausted, Undecided}
 use Rattle.crews.specs.declared.Filled.{Filled}
-use Rattle.crews.specs.Filling.{Work, Outcome, nothing, search_from}
+use Rattle.crews.specs.declared.Wanted.{Wanted}
+use Rattle.crews.specs.Filling.{Work, Outcome, nothing, orderly, search_from}
+use Rattle.sets.specs.Arrays.{at}
 
 -- "Filling ends at the first complete crew list, or when all are exhausted."
 abbrev pub ending_of : Bool → Ending
@@ -30,3 +32,7 @@ found_from w free =
       | true ↦ elim (leb w.crews crew_limit) [ true ↦ search_from w free | false ↦ nothing ]
       | false ↦ nothing
     ]
+
+-- the rule by which what is wanted is filled
+abbrev pub rule_of : Wanted → Work
+rule_of w = orderly (at w.holds) (at w.holders) w.task w.crews w.size w.least

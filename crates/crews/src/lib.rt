@@ -7,9 +7,9 @@ ghost use Rattle.std.specs.Prelude.{◌≡◌, ◌-◌, ◌≤◌, ◌<◌};
 ghost use Rattle.std.specs.Int.Bits.{bit_and, bit_xor};
 ghost use Rattle.std.specs.Int.Count.{ones};
 ghost use Rattle.roster.specs.Limits.{row_limit, crew_limit};
-ghost use Rattle.crews.specs.Filling.{place_of, close_of, closes_of, placed_of, pool_of, begin, search, orderly, holds_of, holders_of};
+ghost use Rattle.crews.specs.Filling.{place_of, close_of, closes_of, placed_of, pool_of, begin, search, holds_of, holders_of};
 ghost use Rattle.sets.specs.Arrays.{tabulate, at};
-ghost use Rattle.crews.specs.Filled.{filled_with, filled_of, found_from};
+ghost use Rattle.crews.specs.Filled.{filled_with, filled_of, found_from, rule_of};
 ghost use Rattle.crews.specs.Inner.Placing.{closed_where, stuck, eligible_of, Ready, Placing};
 ghost use Rattle.crews.specs.Inner.Replied.{replied_of};
 ghost use Rattle.roster.specs.Replies.{no_crews};
@@ -18,6 +18,19 @@ ghost use Rattle.crews.specs.Named.{NamedReplyFor};
 
 use roster::{Policy, Reply, Table};
 use sets::Members;
+
+// What crews are filled for, and of whom: what each row holds, who holds each permission, the task, how many crews, of how many members at most and at
+// least, and the allowance.
+#[derive(Clone, Copy)]
+pub struct Wanted {
+    pub holds: [u32; Policy::ROWS],
+    pub holders: [u64; 32],
+    pub task: u32,
+    pub crews: usize,
+    pub size: u32,
+    pub least: u32,
+    pub allowance: u32,
+}
 
 // The half-filled crews: those closed, the one being filled, the rows neither absent nor placed, what the crew being filled holds, and the
 // lowest row that may begin the next crew. The crew being filled is a field of its own because it changes with each row: written into the
@@ -191,120 +204,77 @@ fn candidates(holders: &[u64], missing: u32, free: u64) -> u64
     holders[permission] & free
 }
 
-// One placement: the row in the crew being filled, and filling goes on from there. `spent` has the placement's unit already.
-#[cycle(go_on_try_each)]
-fn go_on(
-    holds: &[u32; Policy::ROWS],
-    holders: &[u64; 32],
-    task: u32,
-    crews: usize,
-    size: u32,
-    least: u32,
-    before: Filling,
-    row: usize,
-    spent: u32,
-    allowance: u32,
-) -> Filled
-    requires { Placing crews size before row spent allowance }
-    ensures { result ≡ filled_of allowance spent (search (ones before.free - 1) (orderly (at holds.now) (at holders.now) task crews size least) (placed_of (orderly (at holds.now) (at holders.now) task crews size least) before row)) }
-{
-    let placed = before.place(row, holds[row]);
-    if placed.stuck(task, size, least) {
-        return Filled::without_crews(Ending::Exhausted, spent);
-    }
-    try_each(
-        holds, holders, task, crews, size, least, placed, spent, allowance,
-    )
-}
-
-// Each candidate in turn, from the state just placed. The crew is closed here and not where the row was placed, so that no copy of the crews
-// follows at once on the write into them.
-#[cycle(go_on_try_each)]
-fn try_each(
-    holds: &[u32; Policy::ROWS],
-    holders: &[u64; 32],
-    task: u32,
-    crews: usize,
-    size: u32,
-    least: u32,
-    placed: Filling,
-    spent: u32,
-    allowance: u32,
-) -> Filled
-    requires { Ready task crews size least placed spent allowance }
-    ensures { result ≡ filled_of allowance spent (search (ones placed.free) (orderly (at holds.now) (at holders.now) task crews size least) (closed_where task least placed)) }
-{
-    let f = placed.settled(task, least);
-    if f.closed == crews {
-        return f.complete(spent);
-    }
-    let wanted = f.eligible(candidates(holders, missing(task, f.held), f.free));
-    let mut units = spent;
-    for row in Members::of(wanted) {
-        if units >= allowance {
-            return Filled::without_crews(Ending::Undecided, allowance);
+impl Wanted {
+    // One placement: the row in the crew being filled, and filling goes on from there. `spent` has the placement's unit already.
+    #[cycle(go_on_try_each)]
+    fn go_on(&self, before: Filling, row: usize, spent: u32) -> Filled
+        requires { Placing self.now.crews self.now.size before row spent self.now.allowance }
+        ensures { result ≡ filled_of self.now.allowance spent (search (ones before.free - 1) (rule_of self.now) (placed_of (rule_of self.now) before row)) }
+    {
+        let placed = before.place(row, self.holds[row]);
+        if placed.stuck(self.task, self.size, self.least) {
+            return Filled::without_crews(Ending::Exhausted, spent);
         }
-        let filled = go_on(
-            holds,
-            holders,
+        self.try_each(placed, spent)
+    }
+
+    // Each candidate in turn, from the state just placed. The crew is closed here and not where the row was placed, so that no copy of the crews
+    // follows at once on the write into them.
+    #[cycle(go_on_try_each)]
+    fn try_each(&self, placed: Filling, spent: u32) -> Filled
+        requires { Ready self.now.task self.now.crews self.now.size self.now.least placed spent self.now.allowance }
+        ensures { result ≡ filled_of self.now.allowance spent (search (ones placed.free) (rule_of self.now) (closed_where self.now.task self.now.least placed)) }
+    {
+        let f = placed.settled(self.task, self.least);
+        if f.closed == self.crews {
+            return f.complete(spent);
+        }
+        let wanted = f.eligible(candidates(
+            &self.holders,
+            missing(self.task, f.held),
+            f.free,
+        ));
+        let mut units = spent;
+        for row in Members::of(wanted) {
+            if units >= self.allowance {
+                return Filled::without_crews(Ending::Undecided, self.allowance);
+            }
+            let filled = self.go_on(f, row, units + 1);
+            let Ending::Exhausted = filled.ending else {
+                return filled;
+            };
+            units = filled.units;
+        }
+        Filled::without_crews(Ending::Exhausted, units)
+    }
+
+    // The crews filled from the free rows, where `spent` units are spent already. Crews for no permission, and more of them than a reply has room for,
+    // are not looked for; crews of no rows cover nothing.
+    pub fn fill(&self, free: u64, spent: u32) -> Filled
+        ensures value { result ≡ filled_of self.now.allowance spent (found_from (rule_of self.now) free) }
+        ensures kept { self.exit.now ≡ self.entry.now }
+    {
+        let Wanted {
             task,
             crews,
             size,
-            least,
-            f,
-            row,
-            units + 1,
             allowance,
-        );
-        let Ending::Exhausted = filled.ending else {
-            return filled;
-        };
-        units = filled.units;
-    }
-    Filled::without_crews(Ending::Exhausted, units)
-}
-
-// The crews filled from the free rows, each of at least `least` members, where `spent` units are spent already. Crews for no permission, and
-// more of them than a reply has room for, are not looked for; crews of no rows cover nothing.
-pub fn fill(
-    holds: &[u32; Policy::ROWS],
-    holders: &[u64; 32],
-    task: u32,
-    crews: usize,
-    size: u32,
-    least: u32,
-    free: u64,
-    spent: u32,
-    allowance: u32,
-) -> Filled
-    ensures value { result ≡ filled_of allowance spent (found_from (orderly (at holds.now) (at holders.now) task crews size least) free) }
-    ensures kept { (holds.exit.now ≡ holds.entry.now) × (holders.exit.now ≡ holders.entry.now) }
-{
-    if spent > allowance {
-        return Filled::without_crews(Ending::Undecided, allowance);
-    }
-    if task == 0 {
-        return Filled::without_crews(Ending::Exhausted, spent);
-    }
-    if crews > Policy::CREWS {
-        return Filled::without_crews(Ending::Exhausted, spent);
-    }
-    if size == 0 {
-        if crews != 0 {
+            ..
+        } = *self;
+        if spent > allowance {
+            return Filled::without_crews(Ending::Undecided, allowance);
+        }
+        if task == 0 {
             return Filled::without_crews(Ending::Exhausted, spent);
         }
+        if crews > Policy::CREWS {
+            return Filled::without_crews(Ending::Exhausted, spent);
+        }
+        if size == 0 && crews != 0 {
+            return Filled::without_crews(Ending::Exhausted, spent);
+        }
+        self.try_each(Filling::begin(free), spent)
     }
-    try_each(
-        holds,
-        holders,
-        task,
-        crews,
-        size,
-        least,
-        Filling::begin(free),
-        spent,
-        allowance,
-    )
 }
 
 // Each row's holdings within the task. A row past the count holds nothing.
@@ -367,15 +337,14 @@ pub fn ask_named(table: Table, policy: Policy, absent: u64, allowance: u32) -> R
     }
     let holds = holdings_within(table, policy.task);
     let holders = holders_of(&holds);
-    reply_of(fill(
-        &holds,
-        &holders,
-        policy.task,
-        policy.crews,
-        policy.size,
-        roster::least_members(policy.edition),
-        sets::below(rows) & !absent,
-        0,
+    let wanted = Wanted {
+        holds,
+        holders,
+        task: policy.task,
+        crews: policy.crews,
+        size: policy.size,
+        least: roster::least_members(policy.edition),
         allowance,
-    ))
+    };
+    reply_of(wanted.fill(sets::below(rows) & !absent, 0))
 }

@@ -10,6 +10,7 @@ use lib.ListN.{get_or}
 use Rattle.sets.specs.Sets.{below_within}
 use Rattle.roster.specs.declared.Table.{Table}
 use Rattle.roster.specs.Limits.{row_limit}
+use Rattle.roster.specs.Meaning.{least_members}
 use Rattle.roster.specs.Refusals.{policy_ruling}
 use Rattle.roster.proofs.Laws.Rulings as rulings
 use Rattle.sets.specs.Arrays.{tabulate, at}
@@ -57,22 +58,25 @@ module _ (k : After-counted-counts) where
 
   -- ---- what the search is lent is of the table
 
-  abbrev searching : ℕ → List ℕ → List ℕ → Search
-  searching everyone order outweighed = record {
-    task = task;
-    crews = k.args.policy.crews;
-    size = k.args.policy.size;
-    edition = k.args.policy.edition;
-    allowance = k.args.allowance;
+  abbrev searching : ℕ → ℕ → List ℕ → List ℕ → Search
+  searching least everyone order outweighed = record {
+    wanted = record {
+      holds = holds;
+      holders = k.holders_of-holders.result;
+      task = task;
+      crews = k.args.policy.crews;
+      size = k.args.policy.size;
+      least = least;
+      allowance = k.args.allowance;
+    };
     everyone = everyone;
-    holds = holds;
-    holders = k.holders_of-holders.result;
     order = order;
     outweighed = outweighed;
   }
 
-  lends : {everyone : ℕ} {order outweighed : List ℕ} → everyone ≡ 2 ^ min table.rows 64 - 1 → Lent table (searching everyone order outweighed)
-  lends below = record {
+  lends : {least everyone : ℕ} {order outweighed : List ℕ} → least ≡ least_members k.args.policy.edition → everyone ≡ 2 ^ min table.rows 64 - 1
+      → Lent table k.args.policy.edition (searching least everyone order outweighed)
+  lends two below = record {
     small = small;
     everyone = below ∙ below_within 64 _ small;
     few = limits.few;
@@ -80,6 +84,7 @@ module _ (k : After-counted-counts) where
     wide = search rules;
     held = held;
     holding = k.holders_of-holders.ensures.value;
+    least = two;
   }
 
   module _ (order : List ℕ) (is : (u : ℕ) → u < table.rows → get_or order (rank_by k.counted-counts.result table.rows u) 0 ≡ u) where
@@ -87,8 +92,8 @@ module _ (k : After-counted-counts) where
     ordered : (r : ℕ) → r < table.rows → get_or order r 0 ≡ row_at table task r
     ordered = order_at table task table.rows k.counted-counts.result counted order is
 
-    ranks : {everyone : ℕ} {outweighed : List ℕ} → ((r : ℕ) → r < table.rows → at outweighed r ≡ weight_by k.args.way holds order table.rows r)
-        → Ranked k.args.way table (searching everyone order outweighed)
+    ranks : {least everyone : ℕ} {outweighed : List ℕ} → ((r : ℕ) → r < table.rows → at outweighed r ≡ weight_by k.args.way holds order table.rows r)
+        → Ranked k.args.way table (searching least everyone order outweighed)
     ranks weighed = record {
       row = ordered;
       closes = λ r l. weighed r l ∙ weight_at table task small holds order held ordered k.args.way r l;
@@ -106,7 +111,7 @@ pub reply-requires : goal.reply-requires
 reply-requires c =
     let k = (goal.at.reply-requires c).After-counted-counts in
     let within = limits k in
-    ((k.args.way, table k, lends k c.below.ensures, ranks k c.ranked-order.result c.ranked-order.ensures c.weights-outweighed.ensures), omega (arith, within.rows))
+    ((k.args.way, table k, k.args.policy.edition, lends k c.least_members.ensures c.below.ensures, ranks k c.ranked-order.result c.ranked-order.ensures c.weights-outweighed.ensures), omega (arith, within.rows))
 
 -- ---- the two replies
 
@@ -130,6 +135,6 @@ returns c =
     let k = (goal.at.returns c).After-counted-counts in
     let a = c.args in
     allowed (goal.at.returns c).Start _
-    (c.reply.ensures a.way a.table (lends k c.below.ensures) (ranks k c.ranked-order.result c.ranked-order.ensures c.weights-outweighed.ensures)
-    ∙ ap (λ (n : ℕ). searched_by a.way a.table (searching k c.below.result c.ranked-order.result c.weights-outweighed.result) n) c.min.ensures
+    (c.reply.ensures a.way a.table a.policy.edition (lends k c.least_members.ensures c.below.ensures) (ranks k c.ranked-order.result c.ranked-order.ensures c.weights-outweighed.ensures)
+    ∙ ap (λ (n : ℕ). searched_by a.way a.table a.policy.edition (searching k c.least_members.result c.below.result c.ranked-order.result c.weights-outweighed.result) n) c.min.ensures
     ∙ sym (ruled a.way a.table a.policy.task a.policy.away a.policy.crews a.policy.size a.policy.edition a.allowance _ (admitted k)))

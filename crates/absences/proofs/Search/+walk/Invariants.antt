@@ -13,16 +13,16 @@ use Rattle.absences.proofs.Search.+walk.Given as goal
 -- what stays to be shown where these ranks are open, for every table
 abbrev pub Going : Search → ℕ → ℕ → ℕ → ℕ → ℕ → ℕ → Type 0
 Going s absent begun wanted spent ranks units =
-    (way : Way) (table : Table) (next : ℕ) → Lent table s → Ranked way table s → Opens way table s.task next absent begun
-    → (q : ℕ) × Opens way table s.task q absent ranks
-    × (walked_by table s spent (onward way table s.task wanted next absent)
-    ≡ walked_by table s units (onward way table s.task wanted q absent))
+    (way : Way) (table : Table) (ed next : ℕ) → Lent table ed s → Ranked way table s → Opens way table s.wanted.task next absent begun
+    → (q : ℕ) × Opens way table s.wanted.task q absent ranks
+    × (walked_by table ed s spent (onward way table s.wanted.task wanted next absent)
+    ≡ walked_by table ed s units (onward way table s.wanted.task wanted q absent))
 
 abbrev pub decreases-walk : goal.decreases-walk
 decreases-walk l = l.wanted
 
 abbrev pub invariant-loop-rank : goal.invariant-loop-rank
-invariant-loop-rank l = (l.units ≤ l.self.allowance) × Going l.self l.absent l.begun l.wanted l.spent l.ranks l.units
+invariant-loop-rank l = (l.units ≤ l.self.wanted.allowance) × Going l.self l.absent l.begun l.wanted l.spent l.ranks l.units
 
 abbrev pub decreases-loop-rank : goal.decreases-loop-rank
 decreases-loop-rank l = ones l.ranks

@@ -17,40 +17,40 @@ use Rattle.absences.proofs.Search.by_size.Goals as goal
 use Rattle.absences.proofs.Search.by_size.Goals.{After-walk}
 
 -- with nobody absent every rank is open
-begins : (way : Way) (table : Table) (s : Search) → Lent table s → Opens way table s.task 0 0 s.everyone
-begins way table s lent = subst (λ (x : ℕ). Opens way table s.task 0 0 x) (sym lent.everyone) (all_open way table s.task)
+begins : (way : Way) (table : Table) (ed : ℕ) (s : Search) → Lent table ed s → Opens way table s.wanted.task 0 0 s.everyone
+begins way table ed s lent = subst (λ (x : ℕ). Opens way table s.wanted.task 0 0 x) (sym lent.everyone) (all_open way table s.wanted.task)
 
 -- what the walk says of one size, for one table
-walked : (k : After-walk) (way : Way) (table : Table) → let s = k.args.self.now in Lent table s → Ranked way table s
-    → k.walk.result ≡ walked_by table s k.loop-size.units (onward way table s.task k.loop-size.size 0 0)
-walked k way table lent ranked = k.walk.ensures way table 0 lent ranked (begins way table k.args.self.now lent)
+walked : (k : After-walk) (way : Way) (table : Table) (ed : ℕ) → let s = k.args.self.now in Lent table ed s → Ranked way table s
+    → k.walk.result ≡ walked_by table ed s k.loop-size.units (onward way table s.wanted.task k.loop-size.size 0 0)
+walked k way table ed lent ranked = k.walk.ensures way table ed 0 lent ranked (begins way table ed k.args.self.now lent)
 
 pub walk-requires : goal.walk-requires
 walk-requires c = let p = c.requires.0 in
-    ((p.0, p.1, 0, p.2, p.3, begins p.0 p.1 c.args.self.now p.2), c.loop-size.invariant.0)
+    ((p.0, p.1, p.2, 0, p.3, p.4, begins p.0 p.1 p.2 c.args.self.now p.3), c.loop-size.invariant.0)
 
 pub returns-in_err-units : goal.returns-in_err-units
-returns-in_err-units c way table lent ranked = let s = c.args.self.now in
+returns-in_err-units c way table ed lent ranked = let s = c.args.self.now in
     let l = c.loop-size in
     let same : c.from_residual.result ≡ Err c.in_err-units.field-0.0 = search rules in
     same ∙ sym c.in_err-units.was
-    ∙ size_stops way table s c.args.most l.size l.units (omega arith) c.walk.result (walked (goal.at.returns-in_err-units c).After-walk way table lent ranked)
+    ∙ size_stops way table ed s c.args.most l.size l.units (omega arith) c.walk.result (walked (goal.at.returns-in_err-units c).After-walk way table ed lent ranked)
     _ c.in_err-units.was
-    ∙ sym (l.invariant.1 way table lent ranked)
+    ∙ sym (l.invariant.1 way table ed lent ranked)
 
 pub loop-size-preserved : goal.loop-size-preserved
 loop-size-preserved c = let s = c.args.self.now in
     let p = c.requires.0 in
     let l = c.loop-size in
-    let none : (way : Way) (table : Table) → Lent table s → Ranked way table s
-    → (walked_by table s l.units (sizes_from way table s.task ((c.args.most + 1) - l.size) l.size)
-    ≡ walked_by table s c.in_ok-units.units (sizes_from way table s.task ((c.args.most + 1) - (l.size + 1)) (l.size + 1)))
-    × (c.in_ok-units.units ≤ s.allowance) =
-    λ way table lent ranked.
-    size_none way table s c.args.most l.size l.units (omega arith) c.walk.result (walked (goal.at.loop-size-preserved c).After-walk way table lent ranked) _ c.in_ok-units.was in
-    ((none p.0 p.1 p.2 p.3).1, λ way table lent ranked. l.invariant.1 way table lent ranked ∙ (none way table lent ranked).0)
+    let none : (way : Way) (table : Table) (ed : ℕ) → Lent table ed s → Ranked way table s
+    → (walked_by table ed s l.units (sizes_from way table s.wanted.task ((c.args.most + 1) - l.size) l.size)
+    ≡ walked_by table ed s c.in_ok-units.units (sizes_from way table s.wanted.task ((c.args.most + 1) - (l.size + 1)) (l.size + 1)))
+    × (c.in_ok-units.units ≤ s.wanted.allowance) =
+    λ way table ed lent ranked.
+    size_none way table ed s c.args.most l.size l.units (omega arith) c.walk.result (walked (goal.at.loop-size-preserved c).After-walk way table ed lent ranked) _ c.in_ok-units.was in
+    ((none p.0 p.1 p.2 p.3 p.4).1, λ way table ed lent ranked. l.invariant.1 way table ed lent ranked ∙ (none way table ed lent ranked).0)
 
 pub returns : goal.returns
-returns c way table lent ranked = let s = c.args.self.now in
+returns c way table ed lent ranked = let s = c.args.self.now in
     let l = c.loop-size in
-    sizes_end way table s c.args.most l.size l.units (omega arith) l.invariant.0 ∙ sym (l.invariant.1 way table lent ranked)
+    sizes_end way table ed s c.args.most l.size l.units (omega arith) l.invariant.0 ∙ sym (l.invariant.1 way table ed lent ranked)

@@ -3,7 +3,7 @@
 use Prim.Native.Nat.{◌-◌, ◌*◌}
 use lib.Count.{ones}
 use Rattle.crews.proofs.Turns as turn
-use Rattle.crews.proofs.+go_on_try_each.Given as goal
+use Rattle.crews.proofs.Wanted.+go_on_try_each.Given as goal
 
 abbrev pub decreases-go_on : goal.decreases-go_on
 decreases-go_on l = 2 * ones l.before.free - 1
@@ -15,15 +15,15 @@ abbrev pub invariant-try_each-loop-row : goal.invariant-try_each-loop-row
 invariant-try_each-loop-row l =
     turn.Going
     (record {
-      holds = l.holds;
-      holders = l.holders;
-      task = l.task;
-      crews = l.crews;
-      size = l.size;
-      least = l.least;
+      holds = l.self.holds;
+      holders = l.self.holders;
+      task = l.self.task;
+      crews = l.self.crews;
+      size = l.self.size;
+      least = l.self.least;
       state = l.f;
       spent = l.spent;
-      allowance = l.allowance;
+      allowance = l.self.allowance;
     })
     l.row-iterator.left
     l.units
