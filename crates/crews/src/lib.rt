@@ -229,11 +229,7 @@ impl Wanted {
         if f.closed == self.crews {
             return f.complete(spent);
         }
-        let wanted = f.eligible(candidates(
-            &self.holders,
-            missing(self.task, f.held),
-            f.free,
-        ));
+        let wanted = f.eligible(candidates(&self.holders, missing(self.task, f.held), f.free));
         let mut units = spent;
         for row in Members::of(wanted) {
             if units >= self.allowance {

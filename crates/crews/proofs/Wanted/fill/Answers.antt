@@ -26,15 +26,15 @@ returns-then-task-eq0-clause-value c = let s = c.args in
     let wanted = s.self.now in
     let w = rule_of wanted in
     c.without_crews-then-task-eq0.ensures
-          ∙ says_exhausted wanted.allowance s.spent (found_from w s.free) (found-idle w s.free c.if-task-eq0.true) (omega (arith, c.if-spent-allowance.false))
+    ∙ says_exhausted wanted.allowance s.spent (found_from w s.free) (found-idle w s.free c.if-task-eq0.true) (omega (arith, c.if-spent-allowance.false))
 
 pub returns-then-crews-gt-CREWS-clause-value : goal.returns-then-crews-gt-CREWS-clause-value
 returns-then-crews-gt-CREWS-clause-value c = let s = c.args in
     let wanted = s.self.now in
     let w = rule_of wanted in
     c.without_crews-then-crews-gt-CREWS.ensures
-          ∙ says_exhausted wanted.allowance s.spent (found_from w s.free) (found-many w s.free c.if-task-eq0.false c.if-crews-gt-CREWS.true)
-          (omega (arith, c.if-spent-allowance.false))
+    ∙ says_exhausted wanted.allowance s.spent (found_from w s.free) (found-many w s.free c.if-task-eq0.false c.if-crews-gt-CREWS.true)
+    (omega (arith, c.if-spent-allowance.false))
 
 pub returns-then-crews-ne0-clause-value : goal.returns-then-crews-ne0-clause-value
 returns-then-crews-ne0-clause-value c = let s = c.args in
@@ -42,9 +42,9 @@ returns-then-crews-ne0-clause-value c = let s = c.args in
     let w = rule_of wanted in
     let out : wanted.size ≤ ones 0 = omega (arith, c.if-size-eq0.true) in
     c.without_crews-then-crews-ne0.ensures
-          ∙ says_exhausted wanted.allowance s.spent (found_from w s.free)
-          (found_few w s.free c.if-task-eq0.false c.if-crews-gt-CREWS.false ∙ search-full w (begin s.free) _ (λ e. c.if-crews-ne0.true (sym e)) out)
-          (omega (arith, c.if-spent-allowance.false))
+    ∙ says_exhausted wanted.allowance s.spent (found_from w s.free)
+    (found_few w s.free c.if-task-eq0.false c.if-crews-gt-CREWS.false ∙ search-full w (begin s.free) _ (λ e. c.if-crews-ne0.true (sym e)) out)
+    (omega (arith, c.if-spent-allowance.false))
 
 pub try_each-requires : goal.try_each-requires
 try_each-requires c = let s = c.args in
@@ -67,6 +67,6 @@ returns-clause-value c = let s = c.args in
     let w = rule_of wanted in
     let some = c.if-task-eq0.false in
     c.try_each.ensures
-          ∙ ap (λ (f : Filling). filled_of wanted.allowance s.spent (definition.search (ones f.free) w (closed_where wanted.task wanted.least f))) c.begin.ensures
-          ∙ ap (λ (f : Filling). filled_of wanted.allowance s.spent (definition.search (ones s.free) w f)) (begun_short wanted.task wanted.least s.free some)
-          ∙ ap (filled_of wanted.allowance s.spent) (sym (found_few w s.free some c.if-crews-gt-CREWS.false))
+    ∙ ap (λ (f : Filling). filled_of wanted.allowance s.spent (definition.search (ones f.free) w (closed_where wanted.task wanted.least f))) c.begin.ensures
+    ∙ ap (λ (f : Filling). filled_of wanted.allowance s.spent (definition.search (ones s.free) w f)) (begun_short wanted.task wanted.least s.free some)
+    ∙ ap (filled_of wanted.allowance s.spent) (sym (found_few w s.free some c.if-crews-gt-CREWS.false))
