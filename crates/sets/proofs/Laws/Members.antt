@@ -7,9 +7,7 @@ use mathlib.Core.List.{List, [], ◌∷◌, Memᴰ}
 use Rattle.std.specs.Int.Bits.{bit_and, bit_xor, xor_add_and, xor_zero_r, and_step}
 use Rattle.std.specs.Int.Count.{ones, ones_in, count_trailing_zeros, under}
 use Rattle.sets.specs.Mask.{bit, Has}
-use Rattle.sets.specs.Laws.Digits.{bit_le, digit, bit-zero, bit-suc, bit-and, bit-xor, bit-full, ext}
-use Rattle.sets.specs.Laws.Least.{trailing_least}
-use Rattle.sets.proofs.Laws.Drop.{drop_lt}
+use Rattle.sets.specs.Laws.Digits.{bit_le, bit-zero, bit-suc, bit-and, bit-xor, bit-full}
 use Rattle.sets.proofs.Laws.Sizes.{ones-width}
 use Rattle.sets.specs.Sums.{to_n}
 use Rattle.sets.specs.Members.{cons?, members, filter, hasb, set_of}
@@ -142,49 +140,9 @@ walk k (suc w) m h n = go (m % 2) refl (walk (suc k) w (m / 2) (omega arith))
 pub members-least : (w m : ℕ) → m < 2 ^ w → m ≢ 0 → members 0 w m ≡ count_trailing_zeros w m ∷ members 0 w (bit_xor m (2 ^ count_trailing_zeros w m))
 members-least w m h n = walk 0 w m h n ∙ ap (λ (x : ℕ). x ∷ members 0 w (bit_xor m (2 ^ count_trailing_zeros w m))) (omega arith)
 
--- sets of one list are one
-within : (w a b i : ℕ) → members 0 w a ≡ members 0 w b → i < w → bit a i ≤ bit b i
-within w a b i e l =
-    ⊎_elim (λ z. omega arith)
-    (λ o. let h = has_of_mem w b i (subst (λ (x : List ℕ). Memᴰ i x) e (mem_of_has w a i l o)) in omega (arith, h.1))
-    (digit a i)
-
-pub members-same : (w a b : ℕ) → a < 2 ^ w → b < 2 ^ w → members 0 w a ≡ members 0 w b → a ≡ b
-members-same w a b ha hb e = ext w a b ha hb (λ i l. omega (arith, within w a b i e l, within w b a i (sym e) l))
-
 -- the first of the list is a member
 pub members-first : (w m x : ℕ) (l : List ℕ) → members 0 w m ≡ x ∷ l → (x < w) × Has m x
 members-first w m x l e = has_of_mem w m x (subst (λ (k : List ℕ). Memᴰ x k) (sym e) (Memᴰ.head refl))
-
--- so an empty list is that of no member, and a list's head and tail are the least member and the set without it
-pub members-none_left : (w m : ℕ) → m < 2 ^ w → members 0 w m ≡ [] → m ≡ 0
-members-none_left w m h e = members-same w m 0 h (omega arith) (e ∙ sym (members-empty w))
-
-pub record Taken (w m x left : ℕ) : Type 0 where
-  pub some : m ≢ 0
-  pub least : x ≡ count_trailing_zeros w m
-  pub others : left ≡ bit_xor m (2 ^ x)
-
-pub members-taken : (w m x left : ℕ) → m < 2 ^ w → left < 2 ^ w → members 0 w m ≡ x ∷ members 0 w left → Taken w m x left
-members-taken w m x left h l e =
-    let some : m ≢ 0 = (λ z. nil_not_cons (sym (members-empty w) ∙ ap (members 0 w) (sym z) ∙ e)) in
-    let walked = sym e ∙ members-least w m h some in
-    let least : x ≡ count_trailing_zeros w m = heads walked in
-    record {
-      some = some;
-      least = least;
-      others = members-same w left (bit_xor m (2 ^ x)) l (drop_lt w m x h (rw least (trailing_least w m h (omega arith)).has))
-          (tails walked ∙ ap (λ (k : ℕ). members 0 w (bit_xor m (2 ^ k))) (sym least));
-    }
-  where
-    nil_not_cons : [] ≡ x ∷ members 0 w left → ⊥
-    nil_not_cons p = cc
-
-    heads : {y : ℕ} {a b : List ℕ} → x ∷ a ≡ y ∷ b → x ≡ y
-    heads p = cc
-
-    tails : {y : ℕ} {a b : List ℕ} → x ∷ a ≡ y ∷ b → a ≡ b
-    tails p = cc
 
 -- ---- filters
 
