@@ -4,18 +4,16 @@
 use mathlib.Core.Path.{◌≡◌, refl, sym, ap, ap₂, ◌∙◌}
 use mathlib.Core.Logic.{⊎_elim, ◌≢◌}
 use mathlib.Core.Bool.{true, false}
-use mathlib.Core.List.Memᴰ
 use mathlib.Core.List.{List, [], ◌∷◌, Memᴰ}
-use Prim.Native.Nat.{ℕ, suc, ◌+◌, ◌-◌, ◌*◌, ◌%◌, ◌^◌, ◌≤◌, ◌<◌}
+use Prim.Native.Nat.{ℕ, suc, ◌+◌, ◌-◌, ◌≤◌, ◌<◌}
 use native.Mathlib.Omega.{arith}
-use lib.Bits.{bit_xor}
-use lib.Count.{ones, count_trailing_zeros}
+use lib.Count.{ones}
 use borrow.Author.Tests.{leb-true, leb-false}
-use Rattle.sets.specs.Sets.{bit, Has, Sub, Least, bit_le, trailing_least, shl_one}
+use Rattle.sets.specs.Sets.{bit, Has, bit_le}
 use Rattle.sets.proofs.Sets.{ones_none}
 use Rattle.sets.specs.Members.{members}
 use Rattle.sets.specs.Laws.Sums.{either}
-use Rattle.sets.proofs.Laws.Drop.{drop-sub, drop_lt, ones-drop}
+use Rattle.sets.proofs.Laws.Drop.{ones-drop}
 use Rattle.sets.proofs.Laws.Members.{has_of_mem, members-first}
 use Rattle.roster.specs.Limits.{crew_limit}
 use Rattle.roster.specs.Replies.{no_crews}

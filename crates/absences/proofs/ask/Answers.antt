@@ -18,7 +18,7 @@ use Rattle.crews.specs.Filling.{holds_of}
 use Rattle.absences.specs.declared.Search.{Search}
 use Rattle.absences.specs.Tried.{row_at}
 use Rattle.absences.proofs.Laws.Rows.{row_at_lt}
-use Rattle.absences.specs.Inner.Walk.{rank_by, weight_by, Counted, Lent, Ranked, searched_by}
+use Rattle.absences.specs.Inner.Walk.{rank_by, weight_by, Counted, Lent, Over, Ranked, searched_by}
 use Rattle.absences.proofs.Rank.{counted_of, order_at, weight_at}
 use Rattle.absences.specs.Asked.{PolicyReplyFor}
 use Rattle.absences.specs.Replied.{policy_reply_of}
@@ -99,6 +99,12 @@ module _ (k : After-counted-counts) where
       closes = λ r l. weighed r l ∙ weight_at table task small holds order held ordered k.args.way r l;
     }
 
+  abbrev over : {least everyone : ℕ} → least ≡ least_members k.args.policy.edition → everyone ≡ 2 ^ min table.rows 64 - 1
+      → (order : List ℕ) (is : (u : ℕ) → u < table.rows → get_or order (rank_by k.counted-counts.result table.rows u) 0 ≡ u) {outweighed : List ℕ}
+      → ((r : ℕ) → r < table.rows → at outweighed r ≡ weight_by k.args.way holds order table.rows r) → Over (searching least everyone order outweighed)
+  over two below order is weighed =
+      record { way = k.args.way; table = table; edition = k.args.policy.edition; lent = lends two below; ranked = ranks order is weighed }
+
 pub ranked-order-requires : goal.ranked-order-requires
 ranked-order-requires c = let k = (goal.at.ranked-order-requires c).After-counted-counts in (small k, (table k, task k, counted k))
 
@@ -111,7 +117,7 @@ pub reply-requires : goal.reply-requires
 reply-requires c =
     let k = (goal.at.reply-requires c).After-counted-counts in
     let within = limits k in
-    ((k.args.way, table k, k.args.policy.edition, lends k c.least_members.ensures c.below.ensures, ranks k c.ranked-order.result c.ranked-order.ensures c.weights-outweighed.ensures), omega (arith, within.rows))
+    (over k c.least_members.ensures c.below.ensures c.ranked-order.result c.ranked-order.ensures c.weights-outweighed.ensures, omega (arith, within.rows))
 
 -- ---- the two replies
 
@@ -135,6 +141,6 @@ returns c =
     let k = (goal.at.returns c).After-counted-counts in
     let a = c.args in
     allowed (goal.at.returns c).Start _
-    (c.reply.ensures a.way a.table a.policy.edition (lends k c.least_members.ensures c.below.ensures) (ranks k c.ranked-order.result c.ranked-order.ensures c.weights-outweighed.ensures)
+    (c.reply.ensures (over k c.least_members.ensures c.below.ensures c.ranked-order.result c.ranked-order.ensures c.weights-outweighed.ensures)
     ∙ ap (λ (n : ℕ). searched_by a.way a.table a.policy.edition (searching k c.least_members.result c.below.result c.ranked-order.result c.weights-outweighed.result) n) c.min.ensures
     ∙ sym (ruled a.way a.table a.policy.task a.policy.away a.policy.crews a.policy.size a.policy.edition a.allowance _ (admitted k)))

@@ -6,14 +6,12 @@ use mathlib.Core.Logic.{◌≢◌}
 use mathlib.Core.List.{List}
 use Prim.Native.Nat.{ℕ, suc, ◌-◌, ◌≤◌, ◌<◌}
 use native.Mathlib.Omega.{arith}
-use Rattle.roster.specs.declared.Table.{Table}
 use Rattle.sets.specs.Sets.{with, missing}
 use Rattle.sets.specs.Arrays.{at}
 use Rattle.absences.specs.declared.Search.{Search}
 use Rattle.absences.specs.declared.Stop.{Stop}
-use Rattle.absences.specs.declared.Way.{Way}
 use Rattle.absences.specs.Inner.Opens.{Opens}
-use Rattle.absences.specs.Inner.Walk.{Lent, Ranked, walked_by, onward}
+use Rattle.absences.specs.Inner.Walk.{Over, walked_by, onward}
 use Rattle.absences.proofs.Turns as turns
 use Rattle.absences.proofs.Search.+walk.Goals as goal
 use Rattle.absences.proofs.Search.+walk.Goals.{After-least-rank}
@@ -50,32 +48,28 @@ module _ (t : ℕ) (k : After-least-rank t) where
 
   -- what the lent is of, and where the walk began
   record Of : Type 0 where
-    way : Way
-    table : Table
-    ed : ℕ
+    over : Over S
     next : ℕ
-    lent : Lent table ed S
-    ranked : Ranked way table S
-    opens : Opens way table S.wanted.task next absent begun
+    opens : Opens over.way over.table S.wanted.task next absent begun
 
   -- there is such a table
   here : Of
-  here = let p = k.requires.0 in record { way = p.0; table = p.1; ed = p.2; next = p.3; lent = p.4; ranked = p.5; opens = p.6 }
+  here = let p = k.requires.0 in record { over = p.0; next = p.1; opens = p.2 }
 
   module _ (of : Of) where
     abbrev onward_from : ℕ → ℕ → ℕ → List ℕ
-    onward_from = onward of.way of.table S.wanted.task
+    onward_from = onward of.over.way of.over.table S.wanted.task
 
     abbrev asked : Result ℕ Stop
-    asked = walked_by of.table of.ed S k.args.spent (onward_from wanted of.next absent)
+    asked = walked_by of.over.table of.over.edition S k.args.spent (onward_from wanted of.next absent)
 
-    so_far : (q : ℕ) × Opens of.way of.table S.wanted.task q absent ranks × (asked ≡ walked_by of.table of.ed S units (onward_from wanted q absent))
-    so_far = k.loop-rank.invariant.1 of.way of.table of.ed of.next of.lent of.ranked of.opens
+    so_far : (q : ℕ) × Opens of.over.way of.over.table S.wanted.task q absent ranks × (asked ≡ walked_by of.over.table of.over.edition S units (onward_from wanted q absent))
+    so_far = k.loop-rank.invariant.1 of.over of.next of.opens
 
-    turn : turns.Turn of.way of.table S so_far.0 absent ranks wanted rank
+    turn : turns.Turn of.over.way of.over.table S so_far.0 absent ranks wanted rank
     turn = record {
-      small = of.lent.small;
-      ranked = of.ranked;
+      small = of.over.lent.small;
+      ranked = of.over.ranked;
       opens = so_far.1;
       room = omega (arith, k.loop-rank-test.true, k.size.ensures);
       some = k.if-wanted-eq0.false;
@@ -83,14 +77,14 @@ module _ (t : ℕ) (k : After-least-rank t) where
     }
 
     -- the walk with the row comes to r
-    module _ (r : Result ℕ Stop) (told : r ≡ walked_by of.table of.ed S units (onward_from (wanted - 1) (suc rank) (with absent (at order rank)))) where
+    module _ (r : Result ℕ Stop) (told : r ≡ walked_by of.over.table of.over.edition S units (onward_from (wanted - 1) (suc rank) (with absent (at order rank)))) where
       passed : (n : ℕ) → r ≡ Ok n
-          → ((q : ℕ) × Opens of.way of.table S.wanted.task q absent (missing (turns.without ranks rank) (at outweighed rank))
-          × (asked ≡ walked_by of.table of.ed S n (onward_from wanted q absent))) × (n ≤ S.wanted.allowance)
-      passed n o = let w = turns.turn-none turn of.ed units r told n o in ((suc rank, turns.opens_passed turn, so_far.2 ∙ w.0), w.1)
+          → ((q : ℕ) × Opens of.over.way of.over.table S.wanted.task q absent (missing (turns.without ranks rank) (at outweighed rank))
+          × (asked ≡ walked_by of.over.table of.over.edition S n (onward_from wanted q absent))) × (n ≤ S.wanted.allowance)
+      passed n o = let w = turns.turn-none turn of.over.edition units r told n o in ((suc rank, turns.opens_passed turn, so_far.2 ∙ w.0), w.1)
 
       stops : (stop : Stop) → r ≡ Err stop → r ≡ asked
-      stops stop o = turns.turn_stops turn of.ed units r told stop o ∙ sym so_far.2
+      stops stop o = turns.turn_stops turn of.over.edition units r told stop o ∙ sym so_far.2
 
   some : wanted ≢ 0
   some = (turn here).some
@@ -100,22 +94,22 @@ module _ (t : ℕ) (k : After-least-rank t) where
 
   -- what the recursive call is asked and says, of the row added
   module _ {added : ℕ} (is : added ≡ with absent (at order rank)) (of : Of) where
-    taken : Opens of.way of.table S.wanted.task (suc rank) added (turns.without ranks rank)
-    taken = subst (λ (G : ℕ). Opens of.way of.table S.wanted.task (suc rank) G (turns.without ranks rank)) (sym is) (turns.opens_taken (turn of))
+    taken : Opens of.over.way of.over.table S.wanted.task (suc rank) added (turns.without ranks rank)
+    taken = subst (λ (G : ℕ). Opens of.over.way of.over.table S.wanted.task (suc rank) G (turns.without ranks rank)) (sym is) (turns.opens_taken (turn of))
 
     walked : {r : Result ℕ Stop}
-        → ((way : Way) (table : Table) (ed next : ℕ) → Lent table ed S → Ranked way table S
-        → Opens way table S.wanted.task next added (turns.without ranks rank) → r ≡ walked_by table ed S units (onward way table S.wanted.task (wanted - 1) next added))
-        → r ≡ walked_by of.table of.ed S units (onward_from of (wanted - 1) (suc rank) (with absent (at order rank)))
+        → ((by : Over S) (next : ℕ) → Opens by.way by.table S.wanted.task next added (turns.without ranks rank)
+        → r ≡ walked_by by.table by.edition S units (onward by.way by.table S.wanted.task (wanted - 1) next added))
+        → r ≡ walked_by of.over.table of.over.edition S units (onward_from of (wanted - 1) (suc rank) (with absent (at order rank)))
     walked says =
-        says of.way of.table of.ed (suc rank) of.lent of.ranked taken
-        ∙ ap (λ (G : ℕ). walked_by of.table of.ed S units (onward_from of (wanted - 1) (suc rank) G)) is
+        says of.over (suc rank) taken
+        ∙ ap (λ (G : ℕ). walked_by of.over.table of.over.edition S units (onward_from of (wanted - 1) (suc rank) G)) is
 
 pub returns-then-wanted-eq0 : goal.returns-then-wanted-eq0
-returns-then-wanted-eq0 t c way table ed next lent ranked opens =
+returns-then-wanted-eq0 t c over next opens =
     let a = c.args in
-    c.try_absence.ensures table ed lent
-    ∙ ap (walked_by table ed a.self.now a.spent) (turns.turn_whole way table a.self.now.wanted.task a.wanted next a.absent c.if-wanted-eq0.true)
+    c.try_absence.ensures over
+    ∙ ap (walked_by over.table over.edition a.self.now a.spent) (turns.turn_whole over.way over.table a.self.now.wanted.task a.wanted next a.absent c.if-wanted-eq0.true)
 
 pub overflow_shl-others : goal.overflow_shl-others
 overflow_shl-others t c = fits t (goal.at.overflow_shl-others t c).After-least-rank
@@ -130,12 +124,12 @@ pub walk-requires : goal.walk-requires
 walk-requires t c =
     let k = (goal.at.walk-requires t c).After-least-rank in
     let of = here t k in
-    (omega (arith, c.decreases, some t k), ((of.way, of.table, of.ed, suc (rank t k), of.lent, of.ranked, taken t k c.adding-taken.ensures of), c.loop-rank.invariant.0))
+    (omega (arith, c.decreases, some t k), ((of.over, suc (rank t k), taken t k c.adding-taken.ensures of), c.loop-rank.invariant.0))
 
 pub returns-in_err-units : goal.returns-in_err-units
-returns-in_err-units t c way table ed next lent ranked opens =
+returns-in_err-units t c over next opens =
     let k = (goal.at.returns-in_err-units t c).After-least-rank in
-    let of : Of t k = record { way = way; table = table; ed = ed; next = next; lent = lent; ranked = ranked; opens = opens } in
+    let of : Of t k = record { over = over; next = next; opens = opens } in
     let same : c.from_residual.result ≡ Err c.in_err-units.field-0.0 = search rules in
     same ∙ sym c.in_err-units.was ∙ stops t k of c.walk.result (walked t k c.adding-taken.ensures of c.walk.ensures) _ c.in_err-units.was
 
@@ -149,15 +143,15 @@ pub loop-rank-preserved : goal.loop-rank-preserved
 loop-rank-preserved t c =
     let k = (goal.at.loop-rank-preserved t c).After-least-rank in
     let on : (of : Of t k)
-    → ((q : ℕ) × Opens of.way of.table (S t k).wanted.task q (absent t k) (missing (turns.without (ranks t k) (rank t k)) (at (outweighed t k) (rank t k)))
-    × (asked t k of ≡ walked_by of.table of.ed (S t k) c.in_ok-units.units (onward_from t k of (wanted t k) q (absent t k)))) × (c.in_ok-units.units ≤ (S t k).wanted.allowance) =
+    → ((q : ℕ) × Opens of.over.way of.over.table (S t k).wanted.task q (absent t k) (missing (turns.without (ranks t k) (rank t k)) (at (outweighed t k) (rank t k)))
+    × (asked t k of ≡ walked_by of.over.table of.over.edition (S t k) c.in_ok-units.units (onward_from t k of (wanted t k) q (absent t k)))) × (c.in_ok-units.units ≤ (S t k).wanted.allowance) =
     λ of. passed t k of c.walk.result (walked t k c.adding-taken.ensures of c.walk.ensures) _ c.in_ok-units.was in
-    ((on (here t k)).1, λ way table ed next lent ranked opens. (on (record { way = way; table = table; ed = ed; next = next; lent = lent; ranked = ranked; opens = opens })).0)
+    ((on (here t k)).1, λ over next opens. (on (record { over = over; next = next; opens = opens })).0)
 
 pub returns : goal.returns
-returns t c way table ed next lent ranked opens =
+returns t c over next opens =
     let l = c.loop-rank in
     let a = c.args in
-    let i = l.invariant.1 way table ed next lent ranked opens in
-    turns.turn_ends way table ed a.self.now a.wanted i.0 a.absent l.ranks l.units i.1 (omega (arith, c.loop-rank-test.false, c.size.ensures)) l.invariant.0
+    let i = l.invariant.1 over next opens in
+    turns.turn_ends over.way over.table over.edition a.self.now a.wanted i.0 a.absent l.ranks l.units i.1 (omega (arith, c.loop-rank-test.false, c.size.ensures)) l.invariant.0
     ∙ sym i.2

@@ -3,20 +3,18 @@
 use mathlib.Core.Path.{◌≡◌}
 use Prim.Native.Nat.{ℕ, ◌≤◌}
 use lib.Count.{ones}
-use Rattle.roster.specs.declared.Table.{Table}
 use Rattle.absences.specs.declared.Search.{Search}
-use Rattle.absences.specs.declared.Way.{Way}
 use Rattle.absences.specs.Inner.Opens.{Opens}
-use Rattle.absences.specs.Inner.Walk.{Lent, Ranked, walked_by, onward}
+use Rattle.absences.specs.Inner.Walk.{Over, walked_by, onward}
 use Rattle.absences.proofs.Search.+walk.Given as goal
 
 -- what stays to be shown where these ranks are open, for every table
 abbrev pub Going : Search → ℕ → ℕ → ℕ → ℕ → ℕ → ℕ → Type 0
 Going s absent begun wanted spent ranks units =
-    (way : Way) (table : Table) (ed next : ℕ) → Lent table ed s → Ranked way table s → Opens way table s.wanted.task next absent begun
-    → (q : ℕ) × Opens way table s.wanted.task q absent ranks
-    × (walked_by table ed s spent (onward way table s.wanted.task wanted next absent)
-    ≡ walked_by table ed s units (onward way table s.wanted.task wanted q absent))
+    (of : Over s) (next : ℕ) → Opens of.way of.table s.wanted.task next absent begun
+    → (q : ℕ) × Opens of.way of.table s.wanted.task q absent ranks
+    × (walked_by of.table of.edition s spent (onward of.way of.table s.wanted.task wanted next absent)
+    ≡ walked_by of.table of.edition s units (onward of.way of.table s.wanted.task wanted q absent))
 
 abbrev pub decreases-walk : goal.decreases-walk
 decreases-walk l = l.wanted

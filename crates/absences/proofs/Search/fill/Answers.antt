@@ -5,5 +5,5 @@ use Rattle.absences.proofs.Absent.{fills}
 use Rattle.absences.proofs.Search.fill.Goals as goal
 
 pub returns : goal.returns
-returns c table ed lent = let s = c.args.self.now in
-    c.fill.ensures.value ∙ ap (filled_of s.wanted.allowance c.args.spent) (fills table ed s lent _ c.args.absent refl)
+returns c of = let s = c.args.self.now in
+    c.fill.ensures.value ∙ ap (filled_of s.wanted.allowance c.args.spent) (fills of.table of.edition s of.lent _ c.args.absent refl)

@@ -5,10 +5,10 @@ use Rattle.absences.proofs.Absent.{absent_told, absent_spent}
 use Rattle.absences.proofs.Search.try_absence.Goals as goal
 
 pub returns-then-spent-self : goal.returns-then-spent-self
-returns-then-spent-self c table ed lent = let s = c.args.self.now in
-    absent_spent table s.wanted.task s.wanted.crews s.wanted.size ed _ _ c.args.absent (omega (arith, c.requires, c.if-spent-self.true))
+returns-then-spent-self c of = let s = c.args.self.now in
+    absent_spent of.table s.wanted.task s.wanted.crews s.wanted.size of.edition _ _ c.args.absent (omega (arith, c.requires, c.if-spent-self.true))
 
 pub returns : goal.returns
-returns c table ed lent = let s = c.args.self.now in
+returns c of = let s = c.args.self.now in
     c.walked_by.ensures
-    ∙ absent_told table s.wanted.task s.wanted.crews s.wanted.size ed s.wanted.allowance c.args.spent c.args.absent _ (c.fill.ensures table ed lent)
+    ∙ absent_told of.table s.wanted.task s.wanted.crews s.wanted.size of.edition s.wanted.allowance c.args.spent c.args.absent _ (c.fill.ensures of)

@@ -1,5 +1,5 @@
 -- What is left begins with its least member. Assumes nothing.
-use Rattle.std.proofs.Common.{◌≡◌, ◌≢◌, ℕ, ◌^◌, ◌<◌, ◌%◌, ◌*◌, [], ◌∷◌, ap, length, arith}
+use Rattle.std.proofs.Common.{◌≡◌, ◌≢◌, ℕ, ◌^◌, ◌<◌, ◌%◌, ◌*◌, ◌∷◌, ap, length, arith}
 use Rattle.std.specs.Int.Count.{count_trailing_zeros}
 use Rattle.std.specs.Int.Bits.{bit_xor}
 use Rattle.sets.specs.Members.{members}
