@@ -99,7 +99,8 @@ fn put_marks(out: &mut [u8], at: usize, listed: usize, set: u32) -> usize
     next
 }
 
-// The codes of a heading.
+// The codes of a heading. Three functions ask for no more codes than there is room for: of the values as a whole `Counted` says it, and a type for
+// such values would be no plainer, made once by `put_table`.
 fn put_codes(out: &mut [u8], at: usize, contents: Values) -> usize
     requires { contents.code_count ≤ permission_limit }
     ensures { Appended (code_cells contents) out.old at out.new result }
