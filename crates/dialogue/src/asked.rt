@@ -10,7 +10,7 @@ use std::rt::Files;
 // As much as the sheet allows.
 const ALLOWANCE: u32 = 1000000;
 
-// The number of no permission, of which a roster says that there is no such permission.
+// The number of no permission, of which a roster says that there is no such permission: `Roster::grant` and `revoke` take a number and refuse this one.
 const NO_PERMISSION: u32 = 32;
 
 // What the items of a list are.

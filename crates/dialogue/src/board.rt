@@ -15,11 +15,7 @@ pub struct Board {
 
 // The codes 0 to 31.
 fn own_codes() -> [u16; 32] {
-    let mut codes = [0; 32];
-    for code in 0u16..32 {
-        codes[usize::from(code)] = code;
-    }
-    codes
+    std::array::from_fn(|code| code as u16)
 }
 
 impl Board {

@@ -7,11 +7,6 @@ use std::io::Write;
 use std::rt::Files;
 use values::NotWritten;
 
-// The first bytes of a buffer; none where there are not so many.
-fn front(bytes: &[u8], length: usize) -> &[u8] {
-    bytes.get(..length).unwrap_or(b"")
-}
-
 // Puts the roster's book into the buffer, and answers how many bytes it has.
 fn lay_out(board: Board, out: &mut [u8]) -> Result<usize, NotWritten> {
     let roster = board.roster;
@@ -34,7 +29,7 @@ pub(crate) fn sheet(rt: &impl Print, board: Board) -> bool {
     }
     let mut book = [0u8; values::LONGEST];
     match lay_out(board, &mut book) {
-        Ok(length) => show(rt, front(&book, length)),
+        Ok(length) => show(rt, &book[..length.min(values::LONGEST)]),
         Err(not) => no_book(rt, not.why.number()),
     }
 }
@@ -42,7 +37,7 @@ pub(crate) fn sheet(rt: &impl Print, board: Board) -> bool {
 fn show(rt: &impl Print, book: &[u8]) -> bool {
     let mut text = [0u8; lines::LONGEST];
     match lines::sheet(book, &mut text) {
-        Ok(length) => said::text(rt, front(&text, length)),
+        Ok(length) => said::text(rt, &text[..length.min(lines::LONGEST)]),
         Err(_) => false,
     }
 }
@@ -51,7 +46,7 @@ fn show(rt: &impl Print, book: &[u8]) -> bool {
 pub(crate) fn write(rt: &(impl Files + Print), board: Board, name: &[u8]) -> bool {
     let mut book = [0u8; values::LONGEST];
     match lay_out(board, &mut book) {
-        Ok(length) => save(rt, name, front(&book, length)),
+        Ok(length) => save(rt, name, &book[..length.min(values::LONGEST)]),
         Err(not) => no_book(rt, not.why.number()),
     }
 }

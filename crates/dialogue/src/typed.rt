@@ -7,7 +7,7 @@ use std::io::Read;
 // A longer line is not understood.
 const WIDTH: usize = 1000;
 
-// How a line ended: with its newline, or with the input; or the input could not be read.
+// How a line ended: with its newline, or with the input; or the input could not be read. Three ends, each with the line so far: no `Option` or `Result`.
 #[derive(Clone, Copy)]
 pub enum Ended {
     Newline,
@@ -15,7 +15,8 @@ pub enum Ended {
     Failed,
 }
 
-// The first `length` bytes are the line. Of one that is too long the front is kept. An array with its length and no `Vec`: no program here has a heap.
+// The first `length` bytes are the line. Of one that is too long the front is kept. An array with its length and no `Vec`,
+// which would let a line fail for want of memory.
 #[derive(Clone, Copy)]
 pub struct Line {
     bytes: [u8; WIDTH],

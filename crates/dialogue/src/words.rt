@@ -43,18 +43,12 @@ pub(crate) fn has_words(text: &[u8], count: usize) -> bool {
     word(text, count).is_empty() && (count == 0 || !word(text, count - 1).is_empty())
 }
 
-// The number of 32 bits that the word is. A number has ten digits at most, with those in front that are 0, and no sign; `parse` would take more
-// digits, and a `+`.
+// The number of 32 bits that the word is. A number has ten digits at most, with those in front that are 0, and no sign.
 pub(crate) fn number_of(word: &[u8]) -> Option<u32> {
-    if word.is_empty() || word.len() > 10 {
+    if word.len() > 10 || matches!(word, [b'+', ..]) {
         return None;
     }
-    let mut value: u32 = 0;
-    for byte in word {
-        let digit = char::from(*byte).to_digit(10)?;
-        value = value.checked_mul(10)?.checked_add(digit)?;
-    }
-    Some(value)
+    str::from_utf8(word).ok()?.parse().ok()
 }
 
 // The number that a word of a line is, by the word's number.

@@ -15,7 +15,8 @@ const BOOKS: usize = 3000;
 
 const PLANTED: usize = 10;
 
-// A book of the drawn values, in the first `length` bytes; of no bytes if the values cannot be written.
+// A book of the drawn values, in the first `length` bytes; of no bytes if the values cannot be written. An array with its length and no `Vec`: a
+// `Vec` would let each comparison fail for want of memory.
 #[derive(Clone, Copy)]
 struct Book {
     bytes: [u8; values::LONGEST],
@@ -30,9 +31,10 @@ fn drawn(seed: u64) -> Book {
     }
 }
 
-// The first bytes of a buffer; all of it where there are not so many.
-fn front(bytes: &[u8], length: usize) -> &[u8] {
-    bytes.get(..length).unwrap_or(bytes)
+impl Book {
+    fn text(&self) -> &[u8] {
+        &self.bytes[..self.length.min(values::LONGEST)]
+    }
 }
 
 // Whether the table, saved in this way, gives this book.
@@ -40,8 +42,8 @@ fn gives(table: &[u8], way: Way, book: &[u8]) -> bool {
     let mut text = [0u8; saved::ROOM];
     let length = saved::put(table, &mut text, way);
     let mut made = [0u8; values::LONGEST];
-    match table::make(front(&text, length), &mut made) {
-        Ok(size) => front(&made, size) == book,
+    match table::make(&text[..length.min(saved::ROOM)], &mut made) {
+        Ok(size) => &made[..size.min(values::LONGEST)] == book,
         Err(_) => false,
     }
 }
@@ -50,7 +52,7 @@ fn gives(table: &[u8], way: Way, book: &[u8]) -> bool {
 fn comes_back(shown: &[u8], way: Way, book: &[u8]) -> bool {
     let mut table = [0u8; table::LONGEST];
     match table::show(shown, &mut table) {
-        Ok(Shown::Table(length)) => gives(front(&table, length), way, book),
+        Ok(Shown::Table(length)) => gives(&table[..length.min(table::LONGEST)], way, book),
         _ => false,
     }
 }
@@ -58,13 +60,9 @@ fn comes_back(shown: &[u8], way: Way, book: &[u8]) -> bool {
 // Whether a drawn book comes back, with so much added to the first byte of the one that it is compared with.
 fn stands(seed: u64, way: Way, added: u8) -> bool {
     let book = drawn(seed);
-    let mut other = book.bytes;
-    other[0] = other[0].wrapping_add(added);
-    comes_back(
-        front(&book.bytes, book.length),
-        way,
-        front(&other, book.length),
-    )
+    let mut other = book;
+    other.bytes[0] = other.bytes[0].wrapping_add(added);
+    comes_back(book.text(), way, other.text())
 }
 
 // How many of so many books differ.

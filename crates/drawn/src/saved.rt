@@ -3,15 +3,14 @@
 // Any table has room, with a column more and two bytes at the end of each line.
 pub const ROOM: usize = 12000;
 
-// What the way is called, what stands between two cells, whether lines end with a carriage return, and whether there is a byte order mark and a column
-// of names.
+// What the way is called, what stands at the front, between two cells and at the end of a line, and whether there is a column of names.
 #[derive(Clone, Copy)]
 pub struct Way {
     pub(crate) name: &'static str,
+    front: &'static [u8],
     between: u8,
-    returns: bool,
-    marked: bool,
-    named: bool,
+    behind: &'static [u8],
+    has_names: bool,
 }
 
 // Where in a table one is: at the beginning of a line or further on, in a heading or another line.
@@ -26,10 +25,10 @@ impl Way {
     fn plain() -> Way {
         Way {
             name: "as shown",
+            front: b"",
             between: b',',
-            returns: false,
-            marked: false,
-            named: false,
+            behind: b"\n",
+            has_names: false,
         }
     }
 
@@ -37,10 +36,10 @@ impl Way {
     fn mixed() -> Way {
         Way {
             name: "semicolons, carriage returns, names and a byte order mark",
+            front: b"\xef\xbb\xbf",
             between: b';',
-            returns: true,
-            marked: true,
-            named: true,
+            behind: b"\r\n",
+            has_names: true,
         }
     }
 
@@ -61,12 +60,12 @@ impl Way {
             },
             Way {
                 name: "carriage returns",
-                returns: true,
+                behind: b"\r\n",
                 ..plain
             },
             Way {
                 name: "a column of names",
-                named: true,
+                has_names: true,
                 ..plain
             },
             Way::mixed(),
@@ -100,7 +99,7 @@ fn put_cell(out: &mut [u8], at: usize, heading: bool) -> usize {
 
 // The same where one stands: in front of each line that is not empty.
 fn put_name(out: &mut [u8], at: usize, way: Way, place: Place, byte: u8) -> usize {
-    if !way.named || !place.begins || byte == b'\n' {
+    if !way.has_names || !place.begins || byte == b'\n' {
         return at;
     }
     let next = put_cell(out, at, place.heading);
@@ -109,26 +108,16 @@ fn put_name(out: &mut [u8], at: usize, way: Way, place: Place, byte: u8) -> usiz
 
 // A byte of the table.
 fn put_byte(out: &mut [u8], at: usize, way: Way, byte: u8) -> usize {
-    if byte == b',' {
-        return text::put(out, at, way.between);
+    match byte {
+        b',' => text::put(out, at, way.between),
+        b'\n' => text::word(out, at, way.behind),
+        _ => text::put(out, at, byte),
     }
-    if byte == b'\n' && way.returns {
-        return text::word(out, at, b"\r\n");
-    }
-    text::put(out, at, byte)
-}
-
-// The byte order mark, if there is one.
-fn put_mark(out: &mut [u8], way: Way) -> usize {
-    if way.marked {
-        return text::word(out, 0, b"\xef\xbb\xbf");
-    }
-    0
 }
 
 // The table at the front of the buffer.
 pub(crate) fn put(table: &[u8], out: &mut [u8], way: Way) -> usize {
-    let mut at = put_mark(out, way);
+    let mut at = text::word(out, 0, way.front);
     let mut place = Place {
         begins: true,
         heading: true,

@@ -18,28 +18,16 @@ const BEFORE: u8 = 7;
 
 // ---- values
 
-fn add_code(values: &mut Values, code: u64) {
-    let at = values.code_count;
-    if at < book::PERMISSIONS {
-        values.codes[at] = (code % 65536) as u16;
+// An entry more behind those that are counted; it is counted where there is no place for it, too.
+fn add<T: Copy>(entries: &mut [T], count: &mut usize, entry: T) {
+    if let Some(place) = entries.get_mut(*count) {
+        *place = entry;
     }
-    values.code_count = at.saturating_add(1);
+    *count = count.saturating_add(1);
 }
 
 fn add_row(values: &mut Values, row: Row) {
-    let at = values.row_count;
-    if at < Policy::ROWS {
-        values.rows[at] = row;
-    }
-    values.row_count = at.saturating_add(1);
-}
-
-fn add_policy(values: &mut Values, policy: Policy) {
-    let at = values.policy_count;
-    if at < book::POLICIES {
-        values.policies[at] = policy;
-    }
-    values.policy_count = at.saturating_add(1);
+    add(&mut values.rows, &mut values.row_count, row);
 }
 
 // The policy whose numbers stand from this word on: `3 1 2 2`, or `3 1 2 2 edition 2`.
@@ -68,7 +56,11 @@ fn with_entry(
     let staff = narrow(first);
     let second = narrow(second);
     match word(line, at) {
-        "code" => add_code(&mut values, first),
+        "code" => add(
+            &mut values.codes,
+            &mut values.code_count,
+            (first % 65536) as u16,
+        ),
         "row" => add_row(
             &mut values,
             Row {
@@ -85,7 +77,11 @@ fn with_entry(
                 holdings: narrow(third),
             },
         ),
-        "policy" => add_policy(&mut values, policy_at(line, from)),
+        "policy" => add(
+            &mut values.policies,
+            &mut values.policy_count,
+            policy_at(line, from),
+        ),
         "of" => {
             let book = called(rt, alloc, line, from)?;
             return Ok(values::of_book(&book.unwrap_or(Draft::empty(alloc)).bytes));

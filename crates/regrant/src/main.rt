@@ -16,19 +16,10 @@ fn regrant(book: &[u8], row: usize, holdings: u32, out: &mut [u8]) -> Result<usi
     values::write(values, out)
 }
 
-// The first bytes of a buffer; all of it where there are not so many.
-fn front(bytes: &[u8], length: usize) -> &[u8] {
-    if length <= bytes.len() {
-        &bytes[0..length]
-    } else {
-        bytes
-    }
-}
-
 fn show_sheet(rt: &impl Print, book: &[u8]) -> io::Result<()> {
     let mut text = [0u8; lines::LONGEST];
     match lines::sheet(book, &mut text) {
-        Ok(length) => rt.write_all(front(&text, length)),
+        Ok(length) => rt.write_all(&text[..length.min(lines::LONGEST)]),
         Err(_) => Ok(()),
     }
 }
@@ -36,14 +27,14 @@ fn show_sheet(rt: &impl Print, book: &[u8]) -> io::Result<()> {
 fn main(rt: HostRuntime) -> io::Result<()> {
     let mut bytes = [0u8; values::LONGEST];
     let length = input::read_file(&rt, "b.book", &mut bytes).unwrap_or(0);
-    let book = front(&bytes, length);
+    let book = &bytes[..length];
     show_sheet(&rt, book)?;
 
     let mut out = [0u8; values::LONGEST];
     match regrant(book, 1, 3, &mut out) {
         Ok(length) => {
             println!(rt; "written, {length} bytes")?;
-            show_sheet(&rt, front(&out, length))
+            show_sheet(&rt, &out[..length.min(values::LONGEST)])
         }
         Err(not) => {
             let number = not.why.number();

@@ -2,17 +2,12 @@
 use crate::draft::Draft;
 use crate::{Trouble, What};
 
-// The number that the cell is, if it is one of 32 bits, without a 0 in front.
+// The number that the cell is, if it is one of 32 bits, without a 0 or a sign in front.
 pub(crate) fn number_of(cell: &[u8]) -> Option<u32> {
-    if matches!(cell, [] | [b'0', _, ..]) {
+    if matches!(cell, [b'0', _, ..] | [b'+', ..]) {
         return None;
     }
-    let mut value: u32 = 0;
-    for &byte in cell {
-        let digit = char::from(byte).to_digit(10)?;
-        value = value.checked_mul(10)?.checked_add(digit)?;
-    }
-    Some(value)
+    str::from_utf8(cell).ok()?.parse().ok()
 }
 
 // The number that the cell is, if it is one from the first to the last.

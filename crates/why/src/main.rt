@@ -13,18 +13,10 @@ use roster::{Policy, Table, Verdict};
 // No text is longer: 32 lines, each with 64 names of at most ten digits and five bytes between two, and fewer than 200 bytes besides.
 const ROOM: usize = 38400;
 
-// No book has more policies.
-const POLICIES: usize = 32;
-
-// The first bytes of a buffer; all of it where there are not so many.
-fn front(bytes: &[u8], length: usize) -> &[u8] {
-    bytes.get(..length).unwrap_or(bytes)
-}
-
 // The code of a permission; 0 where the book does not list it.
 fn code_of(book: &[u8], permission: u32) -> u64 {
     let code = book::code_at(book, book::starts_in(book), permission as usize);
-    code.unwrap_or(0) as u64
+    u64::from(code.unwrap_or(0))
 }
 
 // How many of the persons who are present hold the permission.
@@ -108,7 +100,7 @@ fn all_lines(book: &[u8], out: &mut [u8]) -> usize {
         return text::word(out, 0, b"no policies: nothing to explain\n");
     }
     let mut at = 0;
-    for index in 0..POLICIES {
+    for index in 0..book::POLICIES {
         at = line(out, at, book, accounts, index);
     }
     at
@@ -129,8 +121,8 @@ fn main(rt: HostRuntime) {
         return;
     };
     let mut out = [0u8; ROOM];
-    let length = said(front(&book, size), &mut out);
-    if rt.write_all(front(&out, length)).is_err() {
+    let length = said(&book[..size], &mut out);
+    if rt.write_all(&out[..length.min(ROOM)]).is_err() {
         let _ = rt.eprintln("why: the output cannot be written");
     }
 }
