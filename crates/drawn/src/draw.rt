@@ -5,7 +5,7 @@ use values::Values;
 
 pub const FIRST: u64 = 88172645463325252;
 
-// The next of a fixed row of numbers that look random (xorshift).
+// The next of a fixed row of numbers that look random (xorshift). `trial` has the same: a crate for three lines is no plainer.
 pub(crate) fn next(state: u64) -> u64 {
     let a = state ^ (state << 13);
     let b = a ^ (a >> 7);

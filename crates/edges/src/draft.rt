@@ -85,7 +85,7 @@ impl Draft {
         Ok(book)
     }
 
-    // So many permissions, with the codes from 0 on.
+    // So many permissions, with the codes from 0 on: what is counted is the code.
     pub(crate) fn permissions_to(alloc: Global, count: u8) -> Result<Draft, AllocError> {
         let mut book = Draft::empty(alloc);
         book.count(count)?;
@@ -96,7 +96,7 @@ impl Draft {
     }
 
     // As long as an old book can be: 32 permissions, 64 rows that hold everything, the last with the highest staff number there is, and 32 policies:
-    // everyone may be away, and one crew of any size has to hold everything.
+    // everyone may be away, and one crew of any size has to hold everything. The staff numbers are made of the count; it is no index.
     pub(crate) fn longest(alloc: Global) -> Result<Draft, AllocError> {
         let mut book = Draft::permissions_to(alloc, 32)?;
         book.count(64)?;

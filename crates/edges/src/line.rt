@@ -28,6 +28,7 @@ impl fmt::Display for Set {
             return f.write_str("-");
         }
         let mut before = "";
+        // a filter is no plainer: in its closure nothing says that the row may be shifted by
         for row in 0..64u32 {
             if self.0 >> row & 1 == 1 {
                 write!(f, "{before}{row}")?;

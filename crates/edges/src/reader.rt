@@ -45,7 +45,7 @@ fn cut(alloc: Global, book: &[u8], place: usize) -> Result<Outcome, AllocError> 
     ))
 }
 
-// A book cut at every byte, whose rows and policies are counted at these places.
+// A book cut at every byte, whose rows and policies are counted at these places: the lengths are what is counted, and no index.
 fn cuts_of(
     alloc: Global,
     book: &[u8],

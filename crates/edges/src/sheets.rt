@@ -20,6 +20,7 @@ fn on_one_line(alloc: Global, text: &[u8]) -> Result<String, AllocError> {
     Ok(line)
 }
 
+// Into a lent buffer on the stack, as `lines::sheet`, which programs without a heap call, asks for it.
 pub(crate) fn sheet(alloc: Global, book: &[u8]) -> Result<String, AllocError> {
     let mut out = [0u8; lines::LONGEST];
     match lines::sheet(book, &mut out) {

@@ -55,7 +55,7 @@ fn read_on<R: Read>(from: &mut R, buffer: &mut [u8], have: usize) -> io::Result<
 }
 
 // Reads until the input is whole, in however many pieces it comes, and answers how many bytes it has. A full buffer is whole: the caller lends as
-// many bytes as decide.
+// many bytes as decide. A `loop`, as each read says whether there is another; a `for` would count turns that nothing asks for.
 pub fn read_all<R: Read>(from: &mut R, buffer: &mut [u8]) -> io::Result<usize>
     ensures settled { Settled result buffer.new }
     ensures long { length buffer.new ≡ length buffer.old }
@@ -69,7 +69,7 @@ pub fn read_all<R: Read>(from: &mut R, buffer: &mut [u8]) -> io::Result<usize>
     }
 }
 
-// Reads until the input ends, a read fails or the buffer is full, and answers how many bytes came.
+// Reads until the input ends, a read fails or the buffer is full, and answers how many bytes came. A `while`, as each read says how far it steps.
 pub fn read_full<R: Read>(from: &mut R, buffer: &mut [u8]) -> usize
     ensures within { result ≤ length buffer.new }
     ensures long { length buffer.new ≡ length buffer.old }

@@ -62,7 +62,8 @@ fn one_set(out: &mut [u8], at: usize, numbers: &[u32; Policy::ROWS], set: u64) -
     }
 }
 
-// A list of crews after a space; `-` if there is none.
+// A list of crews after a space; `-` if there is none. Two arms and not one of `[] | [0, ..]`: the proof would have to cite a name of the toolchain's own,
+// which is no plainer.
 fn all_crews(out: &mut [u8], at: usize, numbers: &[u32; Policy::ROWS], sets: &[u64]) -> usize
     ensures { Appended (space ∷ crews_text numbers.now sets.now) out.old at out.new result }
 {

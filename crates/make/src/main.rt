@@ -51,6 +51,8 @@ fn answer(table: &[u8], input: io::Result<usize>, out: &mut [u8]) -> Said
     made(&table[..size], out)
 }
 
+// `sheet`, `show` and `make` have mains alike. One for all three is no plainer: it would take two lengths, two complaints and `answer` as a closure, with
+// all that `answer` asks and promises said once more.
 fn main(rt: HostRuntime) {
     let mut table = [0u8; table::ENOUGH];
     let input = input::read_all(&mut rt.stdin(), &mut table);

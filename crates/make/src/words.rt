@@ -1,5 +1,5 @@
 // What is wrong with a table, in a planner's words. What writes does so at a place of the buffer and answers the place behind it; a table of
-// words hands on what is none of its own.
+// words hands on what is none of its own. The words stand in groups, since no function of the project has more than 40 lines.
 use table::{Trouble, What};
 
 // "book: line 3, column 2: WORDS"; without a column where it is the whole line, and without either where it is the whole table.

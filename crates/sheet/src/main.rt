@@ -27,6 +27,7 @@ fn answer(book: &[u8], input: io::Result<usize>, out: &mut [u8]) -> Said
     }
 }
 
+// Like that of `make`, which says why there is none for all three.
 fn main(rt: HostRuntime) {
     let mut book = [0u8; lines::ENOUGH];
     let input = input::read_all(&mut rt.stdin(), &mut book);

@@ -7,7 +7,8 @@ ghost use Rattle.table.specs.Inner.Fitting.{between as Fitting·between, Within,
 
 use crate::{Piece, Span, Turn};
 
-// The piece that begins at a place and goes up to the next mark, or to the end.
+// The piece that begins at a place and goes up to the next mark, or to the end. `position` in `&text[at..]` is no plainer: it counts from `at`, and both
+// places would be sums.
 pub(crate) fn piece(text: &[u8], at: usize, mark: u8) -> Piece
     requires { at ≤ length text.now }
     ensures { IsPiece text.now at mark result }
@@ -81,7 +82,8 @@ fn put_end(out: &mut [u8], at: usize, begun: bool) -> usize
     text::word(out, at, b"-\n")
 }
 
-// The cells of a line under those of its heading, as a line.
+// The cells of a line under those of its heading, as a line. A `while` that steps by pieces of both and counts no index: an iterator of pairs of pieces would
+// be a type with laws of its own, which is longer than its two loops.
 fn put_fitted(heading: &[u8], line: &[u8], out: &mut [u8], at: usize) -> usize
     ensures { Appended (fitted heading.now line.now ++ (newline ∷ [])) out.old at out.new result }
 {
@@ -138,7 +140,8 @@ fn take_line(text: &[u8], line: Span, out: &mut [u8], turn: Turn) -> Turn
     Turn { next, ..turn }
 }
 
-// A plain text as it is understood, at the front of a buffer.
+// A plain text as it is understood, at the front of a buffer. A `while` that steps by lines and counts no index: the place of a line is what `take_line`
+// keeps of a heading.
 pub(crate) fn put_tidy(text: &[u8], out: &mut [u8]) -> usize
     ensures { Appended (tidy text.now) out.old 0 out.new result }
 {

@@ -105,7 +105,7 @@ struct Piece {
     next: usize,
 }
 
-// A part of a text, from one place up to another.
+// A part of a text, from one place up to another. Places and no slice: a slice would bring a lifetime to `Turn`, and to its clauses that it is of this text.
 #[derive(Clone, Copy)]
 struct Span {
     from: usize,

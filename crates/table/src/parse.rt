@@ -49,7 +49,7 @@ fn read_cell(
     }
 }
 
-// All cells of a line under those of its heading.
+// All cells of a line under those of its heading. A `while` that steps by pieces, as that of `put_fitted`, which says why.
 fn read_cells(draft: &mut Draft, heading: &[u8], line: &[u8]) -> Result<(), Trouble> {
     let mut column: usize = 0;
     let mut h = 0;
@@ -133,7 +133,7 @@ fn end(draft: &Draft) -> Result<(), Trouble> {
     }
 }
 
-// What a plain text says. Where a heading is waited for the line is one, and its own.
+// What a plain text says. Where a heading is waited for the line is one, and its own. A `while` that steps by lines, as that of `put_tidy`.
 pub(crate) fn parse(text: &[u8]) -> Result<Values, Trouble> {
     let mut draft = Draft::none();
     let mut heading: &[u8] = &[];

@@ -30,7 +30,7 @@ fn parting(quoted: bool, byte: u8) -> bool
     !quoted && matches!(byte, b',' | b';' | b'\t')
 }
 
-// What parts the cells of the table, from a place on.
+// What parts the cells of the table, from a place on. A place and no slice: `&text[from..]` would ask that there are so many bytes.
 fn separator_of(text: &[u8], from: usize) -> u8
     ensures { result ≡ separator_from false (drop from text.now) }
 {
@@ -89,7 +89,7 @@ fn put_byte(out: &mut [u8], at: usize, separator: u8, quoted: bool, byte: u8) ->
     }
 }
 
-// The plain text of a table at the front of a buffer.
+// The plain text of a table at the front of a buffer; from a place on, as above.
 pub(crate) fn put_plain(text: &[u8], out: &mut [u8]) -> usize
     ensures put { Appended (plain text.now) out.old 0 out.new result }
 {

@@ -54,6 +54,9 @@ fn has_editions(form: Form) -> bool
 
 // ---- cells, each after its comma
 
+// The loops over codes, rows and policies are three: one that takes the list and a closure would need a ghost value and `F.post` over the lent buffer, which
+// is no plainer.
+
 // A heading's cell, where the form has its column.
 fn put_word(out: &mut [u8], at: usize, there: bool, word: &[u8]) -> usize
     ensures { Appended (further (only_if there word.now)) out.old at out.new result }

@@ -59,7 +59,7 @@ pub(crate) fn read_row_heading(
     }
 }
 
-// Whether a row has this staff number.
+// Whether a row has this staff number. Codes and staff numbers have a `has_` and a `last_` each: with a closure for the number it is no shorter.
 fn has_staff(values: &Values, staff: u32) -> bool {
     values
         .rows

@@ -1,5 +1,8 @@
 // Appending text at a place of a lent buffer: bytes, words and numbers in decimal. Each function writes what its definition in specs/ says, touches
 // nothing else, and answers the place after it. What does not fit is left out: a caller who knows that there is room knows that all stands there.
+// The buffer and its place, `(out: &mut [u8], at: usize)`, stand beside each other here and in every crate above that writes: a page that holds the lent
+// buffer was tried and proves, but each function that makes one of a lent buffer needs a step that cites a name of the toolchain's own, and every clause
+// has to say that the buffer is still the same: no plainer.
 #![tactic(auto)]
 
 ghost use Rattle.std.specs.Prelude.{◌≡◌, [], ◌∷◌, ◌<◌};

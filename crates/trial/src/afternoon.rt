@@ -166,9 +166,13 @@ impl Pair {
         self.note_reply(
             Kind::Policies,
             skipping,
-            known.policy_reply(true, asked.away),
+            known.policy_reply(Way::Skipping, asked.away),
         );
-        self.note_reply(Kind::Policies, full, known.policy_reply(false, asked.away));
+        self.note_reply(
+            Kind::Policies,
+            full,
+            known.policy_reply(Way::Full, asked.away),
+        );
         self.note_reply(
             Kind::Absences,
             named,
@@ -202,7 +206,7 @@ fn drawn_question(number: u64) -> Asked {
     }
 }
 
-// All calls, one after the other.
+// All calls, one after the other. Their number says when a history ends and when to ask; it is no index.
 fn tried() -> Tallies<4> {
     let mut pair = Pair::begun(Tallies::none());
     let mut drawn = family::FIRST_DRAWN;

@@ -52,7 +52,7 @@ impl Way {
     }
 }
 
-// Six rows in five places make 15,625 ways.
+// Six rows in five places make 15,625 ways: a count of turns, since a proved loop has to end, and no index.
 const WAYS: usize = 15625;
 
 // Whether no crew list exists with these rows absent: each way is looked at.

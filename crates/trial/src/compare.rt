@@ -208,13 +208,20 @@ impl Counts {
         self.note(question, &right, came, &[(kind, *came == right)]);
     }
 
-    // The reply of the search that skips, held against that of the full search.
-    pub(crate) fn both(&mut self, question: &Question, skipping: &Wanted, full: &Wanted) {
+    // A reply that has to be the same with no more units: whether it is, and whether it needs no more, each with its kind.
+    pub(crate) fn alike(
+        &mut self,
+        kinds: (Kind, Kind),
+        question: &Question,
+        wanted: &Wanted,
+        came: &Wanted,
+    ) {
+        let (same, fewer) = kinds;
         let parts = [
-            (Kind::Both, skipping.is_alike(full)),
-            (Kind::Need, skipping.units <= full.units),
+            (same, came.is_alike(wanted)),
+            (fewer, came.units <= wanted.units),
         ];
-        self.note(question, full, skipping, &parts);
+        self.note(question, wanted, came, &parts);
     }
 
     // Whether filling found a list, held against what trying everything says.
@@ -227,15 +234,6 @@ impl Counts {
             &came,
             &[(Kind::Filling, answer == wanted.answer)],
         );
-    }
-
-    // The reply for an absence, held against that of the rule before: the same list, with no more placements.
-    pub(crate) fn before(&mut self, question: &Question, wanted: &Wanted, came: &Wanted) {
-        let parts = [
-            (Kind::List, came.is_alike(wanted)),
-            (Kind::Placements, came.units <= wanted.units),
-        ];
-        self.note(question, wanted, came, &parts);
     }
 }
 

@@ -9,6 +9,7 @@ use crate::plain::{CELLS, Duty, PERMISSIONS, ROWS, digits};
 use crate::question::{AMPLE, Asked, Asking, Question};
 use crate::{known, persons, reason};
 use accounts::Accounts;
+use questions::Way;
 use roster::Policy;
 
 // As many numbers as `try_small` takes apart: 512 holdings, 4 row counts, 7 tasks, 4 values of d, 4 of t and 2 editions.
@@ -128,9 +129,9 @@ fn try_policy(counts: &mut Counts, known: &Known, asked: &Asked, away: usize) {
     let skipping = Question::policy(asked, Asking::Skipping, s);
     let full = Question::policy(asked, Asking::Full, s);
     let both = Question::policy(asked, Asking::Both, s);
-    try_search(counts, &skipping, &known.policy_reply(true, away));
-    try_search(counts, &full, &known.policy_reply(false, away));
-    counts.both(&both, &skipping.came(), &full.came());
+    try_search(counts, &skipping, &known.policy_reply(Way::Skipping, away));
+    try_search(counts, &full, &known.policy_reply(Way::Full, away));
+    counts.alike(BOTH, &both, &full.came(), &skipping.came());
 }
 
 // The question for an absence, or why it blocks: with an ample allowance, with the need, and with one unit less if it needs any.
@@ -142,6 +143,11 @@ fn try_whole(counts: &mut Counts, kinds: (Kind, Kind), question: &Question, want
         try_within(counts, allowed, question, wanted, less);
     }
 }
+
+// What the search that skips replies, held against the full search; and the reply for an absence, held against the rule before.
+pub const BOTH: (Kind, Kind) = (Kind::Both, Kind::Need);
+
+pub const BEFORE: (Kind, Kind) = (Kind::List, Kind::Placements);
 
 const NAMED: (Kind, Kind) = (Kind::Named, Kind::Allowance);
 
@@ -157,7 +163,8 @@ fn try_absence(counts: &mut Counts, known: &Known, asked: &Asked, number: usize)
     let named = Question::named(asked, Asking::Named, absent);
     try_whole(counts, NAMED, &named, &wanted);
     let before = Question::named(asked, Asking::Before, absent);
-    counts.before(
+    counts.alike(
+        BEFORE,
         &before,
         &known.named_reply(number, Rule::Before),
         &named.came(),
@@ -171,7 +178,7 @@ fn try_absence(counts: &mut Counts, known: &Known, asked: &Asked, number: usize)
     );
 }
 
-// Each absence.
+// Each absence, by its number: a set of rows is its binary digits.
 fn try_absences(counts: &mut Counts, known: &Known, asked: &Asked) {
     for number in 0..known.sets {
         try_absence(counts, known, asked, number);
@@ -202,7 +209,7 @@ pub(crate) fn small_task(number: usize) -> [bool; PERMISSIONS] {
     digits(number as u64)
 }
 
-// One duty of the small ones: the number's digits, to changing bases, say the holdings, the row count, the task, d, t and
+// One duty of the small ones, with each s: the number's digits, to changing bases, say the holdings, the row count, the task, d, t and
 // the edition. So many rows make fewer holdings, three binary digits for each.
 fn try_small(counts: &mut Counts, number: usize) {
     let rows = number / 512 % 4;
@@ -226,7 +233,8 @@ fn try_small(counts: &mut Counts, number: usize) {
     }
 }
 
-// All tables of up to 3 rows and 3 permissions, with every task, d and t from 1 to 4, s from 0 to 4, and both editions.
+// All tables of up to 3 rows and 3 permissions, with every task, d and t from 1 to 4, s from 0 to 4, and both editions: a table is made of its number,
+// which is no index.
 pub(crate) fn try_all_small(counts: &mut Counts) {
     for number in 0..SMALL {
         counts.tallies.at(number);
@@ -234,7 +242,7 @@ pub(crate) fn try_all_small(counts: &mut Counts) {
     }
 }
 
-// The next of a fixed row of numbers that look random (xorshift).
+// The next of a fixed row of numbers that look random (xorshift). `drawn` has the same: a crate for three lines is no plainer.
 pub(crate) fn next(state: u64) -> u64 {
     let a = state ^ (state << 13);
     let b = a ^ (a >> 7);

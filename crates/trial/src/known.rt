@@ -4,6 +4,7 @@ use crate::filling::{Filled, Placed, Rule};
 use crate::order::Ranks;
 use crate::plain::{Duty, ROWS, digits};
 use crate::{brute, order};
+use questions::Way;
 use std::fmt;
 
 // Six rows have 64 sets. A set's number has the digit 1, in base 2, for each of its rows.
@@ -159,9 +160,13 @@ pub(crate) fn known_of(duty: Duty) -> Known {
 }
 
 impl Fact {
-    // Whether the search tries it, with so many away.
-    fn is_tried(&self, skipping: bool, away: usize) -> bool {
-        self.absence.size <= away && (!skipping || self.worth)
+    // Whether this search tries it, with so many away.
+    fn is_tried(&self, way: Way, away: usize) -> bool {
+        let is_sought = match way {
+            Way::Full => true,
+            Way::Skipping => self.worth,
+        };
+        is_sought && self.absence.size <= away
     }
 }
 
@@ -185,10 +190,10 @@ impl Known {
     }
 
     // The need of the policy question: the units of the absences tried, up to and including the first that blocks.
-    fn need(&self, skipping: bool, away: usize) -> u32 {
+    fn need(&self, way: Way, away: usize) -> u32 {
         let mut need: u32 = 0;
         for fact in &self.in_order {
-            if fact.is_tried(skipping, away) {
+            if fact.is_tried(way, away) {
                 need = need.wrapping_add(1).wrapping_add(fact.units);
                 if !fact.found {
                     break;
@@ -198,9 +203,9 @@ impl Known {
         need
     }
 
-    // What a policy question has to reply.
-    pub(crate) fn policy_reply(&self, skipping: bool, away: usize) -> Wanted {
-        let need = self.need(skipping, away);
+    // What a policy question has to reply by this search.
+    pub(crate) fn policy_reply(&self, way: Way, away: usize) -> Wanted {
+        let need = self.need(way, away);
         if let Some(blocker) = self.first_blocker(away) {
             return Wanted {
                 blocker: mask_of(&set_of(blocker)),

@@ -5,6 +5,7 @@ use crate::known::{Answer, Wanted};
 use crate::plain::{Duty, digits};
 use crate::question::{Asked, Asking, Question};
 use crate::{family, known, persons, reason};
+use questions::Way;
 use reasons::{Explained, Explanation};
 use roster::{Reply, Verdict};
 
@@ -49,7 +50,7 @@ pub(crate) fn example_ground() -> Ground {
     let known = known::known_of(duty);
     Ground {
         asked: family::asked_of(&persons::own(duty), false, 0),
-        policy: known.policy_reply(true, 1),
+        policy: known.policy_reply(Way::Skipping, 1),
         named: known.named_reply(1, Rule::Ordered),
         why: reason::wanted(&known, 9, false),
     }
@@ -120,7 +121,12 @@ impl Ground {
         let question = self.policy_question(Asking::Both);
         let reply = self.policy_question(Asking::Full).reply();
         for part in parts {
-            counts.both(&question, &altered(&reply, *part), &reply.into());
+            counts.alike(
+                family::BOTH,
+                &question,
+                &reply.into(),
+                &altered(&reply, *part),
+            );
         }
     }
 
@@ -156,7 +162,12 @@ impl Ground {
         let question = self.named_question(Asking::Before);
         let reply = question.reply();
         for part in parts {
-            counts.before(&question, &self.named, &altered(&reply, *part));
+            counts.alike(
+                family::BEFORE,
+                &question,
+                &self.named,
+                &altered(&reply, *part),
+            );
         }
     }
 

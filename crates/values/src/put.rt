@@ -20,7 +20,7 @@ fn low(n: u64) -> u8
     (n % 256) as u8
 }
 
-// A number in two bytes, the lowest first.
+// A number in two bytes, the lowest first: by division, as `little_endian` of the book's specs, which `to_le_bytes` would have to be tied to.
 fn put_two(out: &mut [u8], at: usize, n: u64) -> usize
     ensures { Appended (little_endian 2 n) out.old at out.new result }
 {
