@@ -14,13 +14,6 @@ use book::sections::{count_amiss, past_listed, policy_field, row_amiss};
 use book::{Amiss, Fault, Form, Row, Section};
 use roster::Policy;
 
-// As a wider number.
-fn wide(code: u16) -> u32
-    ensures { result ≡ code }
-{
-    code as u32
-}
-
 // How many entries of the section are meant.
 pub(crate) fn count_of(values: Values, section: Section) -> usize
     ensures { result ≡ count_of values section }
@@ -37,7 +30,7 @@ pub(crate) fn code_in(values: Values, i: usize) -> u32
     requires { i < permission_limit }
     ensures { result ≡ code_in values i }
 {
-    wide(values.codes[i])
+    u32::from(values.codes[i])
 }
 
 // The row of this index.

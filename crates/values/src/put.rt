@@ -53,7 +53,7 @@ fn put_person(out: &mut [u8], at: usize, form: Form, person: u32) -> usize
 {
     match form {
         Form::Old => at,
-        Form::Persons | Form::Editions => put_four(out, at, text::wide(person)),
+        Form::Persons | Form::Editions => put_four(out, at, u64::from(person)),
     }
 }
 
@@ -61,9 +61,9 @@ fn put_person(out: &mut [u8], at: usize, form: Form, person: u32) -> usize
 fn put_row(out: &mut [u8], at: usize, form: Form, row: Row) -> usize
     ensures { Appended (field_bytes (row_widths (form_has_persons form)) (row_fields (form_has_persons form) row)) out.old at out.new result }
 {
-    let staffed = put_four(out, at, text::wide(row.staff));
+    let staffed = put_four(out, at, u64::from(row.staff));
     let named = put_person(out, staffed, form, row.person);
-    put_four(out, named, text::wide(row.holdings))
+    put_four(out, named, u64::from(row.holdings))
 }
 
 // An edition, where the form has it.
@@ -72,7 +72,7 @@ fn put_edition(out: &mut [u8], at: usize, form: Form, edition: u32) -> usize
 {
     match form {
         Form::Old | Form::Persons => at,
-        Form::Editions => put(out, at, low(text::wide(edition))),
+        Form::Editions => put(out, at, low(u64::from(edition))),
     }
 }
 
@@ -80,10 +80,10 @@ fn put_edition(out: &mut [u8], at: usize, form: Form, edition: u32) -> usize
 fn put_policy(out: &mut [u8], at: usize, form: Form, policy: Policy) -> usize
     ensures { Appended (field_bytes (policy_widths (form_has_editions form)) (policy_fields (form_has_editions form) policy)) out.old at out.new result }
 {
-    let tasked = put_four(out, at, text::wide(policy.task));
-    let spared = put(out, tasked, low(text::wide(policy.away)));
+    let tasked = put_four(out, at, u64::from(policy.task));
+    let spared = put(out, tasked, low(u64::from(policy.away)));
     let crewed = put(out, spared, low(policy.crews as u64));
-    let sized = put(out, crewed, low(text::wide(policy.size)));
+    let sized = put(out, crewed, low(u64::from(policy.size)));
     put_edition(out, sized, form, policy.edition)
 }
 
@@ -94,7 +94,7 @@ fn put_entry(out: &mut [u8], at: usize, values: Values, section: Section, i: usi
 {
     let form = values.form;
     match section {
-        Section::Permissions => put_two(out, at, text::wide(code_in(values, i))),
+        Section::Permissions => put_two(out, at, u64::from(code_in(values, i))),
         Section::Rows => put_row(out, at, form, row_in(values, i)),
         Section::Policies => put_policy(out, at, form, policy_in(values, i)),
     }

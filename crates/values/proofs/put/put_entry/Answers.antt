@@ -2,6 +2,7 @@
 use mathlib.Core.Path.{◌≡◌, sym, ap, ◌∙◌}
 use mathlib.Core.List.{append-nil}
 use Prim.Native.Nat.{ℕ}
+use Rattle.std.proofs.Common.{rules}
 use Rattle.book.specs.Layout.{little_endian, field_bytes, code_widths, code_fields}
 use Rattle.book.specs.declared.Section.{Section}
 use Rattle.text.specs.Laws.Appends.{read_as}
@@ -14,8 +15,9 @@ one_field code = sym (append-nil (little_endian 2 code))
 
 pub returns-in-Permissions : goal.returns-in-Permissions
 returns-in-Permissions c = let a = c.args in
+    let same : c.from.result ≡ c.code_in.result = search rules in
     read_as
-    (ap (little_endian 2) (c.wide.ensures ∙ c.code_in.ensures)
+    (ap (little_endian 2) (same ∙ c.code_in.ensures)
     ∙ one_field _
     ∙ ap (λ (s : Section). entry_bytes a.values s a.i) (sym c.in-Permissions.is))
     c.put_two.ensures

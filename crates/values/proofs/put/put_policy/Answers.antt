@@ -3,6 +3,7 @@ use mathlib.Core.Path.{◌≡◌, ap, ◌∙◌}
 use mathlib.Core.Bool.{Bool, true, false}
 use mathlib.Core.List.{[], ◌∷◌, ◌++◌, append_assoc}
 use Prim.Native.Nat.{◌%◌}
+use Rattle.std.proofs.Common.{rules}
 use Rattle.roster.specs.declared.Policy.{Policy}
 use Rattle.book.specs.Layout.{little_endian, field_bytes, policy_widths, policy_fields, form_has_editions}
 use Rattle.text.specs.Laws.Appends.{◌then◌, read_as}
@@ -19,9 +20,12 @@ parts true p = simp append_assoc
 
 pub returns : goal.returns
 returns c = let a = c.args in
+    let task : c.from.result ≡ a.policy.task = search rules in
+    let away : c.from-2.result ≡ a.policy.away = search rules in
+    let size : c.from-3.result ≡ a.policy.size = search rules in
     read_as (parts (form_has_editions a.form) a.policy)
-    (read_as (ap (little_endian 4) c.wide.ensures) c.put_four-tasked.ensures
-    then read_as (byte (c.low.ensures ∙ low_of c.wide-2.ensures)) c.put-spared.ensures
+    (read_as (ap (little_endian 4) task) c.put_four-tasked.ensures
+    then read_as (byte (c.low.ensures ∙ low_of away)) c.put-spared.ensures
     then read_as (byte c.low-2.ensures) c.put-crewed.ensures
-    then read_as (byte (c.low-3.ensures ∙ low_of c.wide-3.ensures)) c.put-sized.ensures
+    then read_as (byte (c.low-3.ensures ∙ low_of size)) c.put-sized.ensures
     then c.put_edition.ensures)
