@@ -13,7 +13,6 @@ ghost use Rattle.values.specs.Writing.{not_written, longest, unwritten_number, W
 
 use book::{Fault, Form, PERMISSIONS, POLICIES, Row, Section};
 use gather::{UNASKED, all_codes, all_policies, all_rows};
-use look::first_fault;
 use put::{length_of, put_lead, put_section};
 use roster::Policy;
 
@@ -116,15 +115,15 @@ pub fn write(values: Values, out: &mut [u8]) -> Result<usize, NotWritten>
     ensures written { Writes (contents_for values) out.old out.new result }
     ensures limit { LONGEST ≡ longest }
 {
-    if let Err(fault) = first_fault(values) {
+    if let Err(fault) = values.first_fault() {
         return not_written(Unwritten::Fault(fault));
     }
-    if out.len() < length_of(values) {
+    if out.len() < length_of(&values) {
         return not_written(Unwritten::Room);
     }
     let form = values.form;
     let codes = put_lead(out, form);
-    let rows = put_section(out, codes, values, Section::Permissions);
-    let policies = put_section(out, rows, values, Section::Rows);
-    Ok(put_section(out, policies, values, Section::Policies))
+    let rows = put_section(out, codes, &values, Section::Permissions);
+    let policies = put_section(out, rows, &values, Section::Rows);
+    Ok(put_section(out, policies, &values, Section::Policies))
 }

@@ -1,4 +1,6 @@
-// The bytes of values, appended at a place of a lent buffer. specs/Inner/Puts says what each function appends.
+// The bytes of values, appended at a place of a lent buffer. specs/Inner/Puts says what each function appends. The buffer and a place in it stay two
+// parameters, with a buffer's place as the answer, as `text::put` has them: a struct of the two would hold a `&mut`, and every clause speak of both
+// ends of it.
 ghost use Rattle.std.specs.Prelude.{◌≡◌, ◌%◌, ◌≤◌, ◌<◌, length};
 ghost use Rattle.book.specs.Layout.{little_endian, field_bytes, row_widths, row_fields, policy_widths, policy_fields, form_has_persons, form_has_editions, lead, bytes_of};
 ghost use Rattle.text.specs.Text.{Appended};
@@ -7,7 +9,6 @@ ghost use Rattle.values.specs.Inner.Looks.{limit_in, count_of, Counted};
 ghost use Rattle.values.specs.Inner.Puts.{person_bytes, edition_bytes, entry_bytes, section_bytes};
 
 use crate::Values;
-use crate::look::{code_in, count_of, policy_in, row_in};
 use book::sections::{policy_width, row_width};
 use book::{Form, Row, Section};
 use roster::Policy;
@@ -88,24 +89,24 @@ fn put_policy(out: &mut [u8], at: usize, form: Form, policy: Policy) -> usize
 }
 
 // An entry of the section.
-fn put_entry(out: &mut [u8], at: usize, values: Values, section: Section, i: usize) -> usize
+fn put_entry(out: &mut [u8], at: usize, values: &Values, section: Section, i: usize) -> usize
     requires { i < limit_in section }
-    ensures { Appended (entry_bytes values section i) out.old at out.new result }
+    ensures { Appended (entry_bytes values.now section i) out.old at out.new result }
 {
     let form = values.form;
     match section {
-        Section::Permissions => put_two(out, at, u64::from(code_in(values, i))),
-        Section::Rows => put_row(out, at, form, row_in(values, i)),
-        Section::Policies => put_policy(out, at, form, policy_in(values, i)),
+        Section::Permissions => put_two(out, at, u64::from(values.code_in(i))),
+        Section::Rows => put_row(out, at, form, values.row_in(i)),
+        Section::Policies => put_policy(out, at, form, values.policy_in(i)),
     }
 }
 
 // A section: its count, then its entries.
-pub(crate) fn put_section(out: &mut [u8], at: usize, values: Values, section: Section) -> usize
-    requires { count_of values section ≤ limit_in section }
-    ensures { Appended (section_bytes values section) out.old at out.new result }
+pub(crate) fn put_section(out: &mut [u8], at: usize, values: &Values, section: Section) -> usize
+    requires { count_of values.now section ≤ limit_in section }
+    ensures { Appended (section_bytes values.now section) out.old at out.new result }
 {
-    let count = count_of(values, section);
+    let count = values.count_of(section);
     let mut next = put(out, at, low(count as u64));
     for i in 0..count {
         next = put_entry(out, next, values, section, i);
@@ -114,16 +115,16 @@ pub(crate) fn put_section(out: &mut [u8], at: usize, values: Values, section: Se
 }
 
 // How long the book of these values is.
-pub(crate) fn length_of(values: Values) -> usize
-    requires { Counted values }
-    ensures { result ≡ length (bytes_of (contents_for values)) }
+pub(crate) fn length_of(values: &Values) -> usize
+    requires { Counted values.now }
+    ensures { result ≡ length (bytes_of (contents_for values.now)) }
 {
     let form = values.form;
     let front = form.front();
     let wide = row_width(form);
     let asked = policy_width(form);
-    let codes = count_of(values, Section::Permissions);
-    let rows = count_of(values, Section::Rows);
-    let policies = count_of(values, Section::Policies);
+    let codes = values.count_of(Section::Permissions);
+    let rows = values.count_of(Section::Rows);
+    let policies = values.count_of(Section::Policies);
     front + 3 + 2 * codes + wide * rows + asked * policies
 }

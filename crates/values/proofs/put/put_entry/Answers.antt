@@ -19,5 +19,5 @@ returns-in-Permissions c = let a = c.args in
     read_as
     (ap (little_endian 2) (same ∙ c.code_in.ensures)
     ∙ one_field _
-    ∙ ap (λ (s : Section). entry_bytes a.values s a.i) (sym c.in-Permissions.is))
+    ∙ ap (λ (s : Section). entry_bytes a.values.now s a.i) (sym c.in-Permissions.is))
     c.put_two.ensures

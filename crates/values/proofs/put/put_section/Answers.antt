@@ -20,12 +20,12 @@ limit_small Policies = omega arith
 pub loop-i-preserved : goal.loop-i-preserved
 loop-i-preserved c = let l = c.loop-i in
     let a = c.args in
-    step _ (with_rest (order_next (entry_bytes a.values a.section) l.i c.count_of-count.result c.loop-i-test.true) l.invariant) c.put_entry-next.ensures
+    step _ (with_rest (order_next (entry_bytes a.values.now a.section) l.i c.count_of-count.result c.loop-i-test.true) l.invariant) c.put_entry-next.ensures
 
 pub returns : goal.returns
 returns c = let l = c.loop-i in
     let a = c.args in
-    let bytes = entry_bytes a.values a.section in
+    let bytes = entry_bytes a.values.now a.section in
     let n = c.count_of-count.result in
     let entries = finish (with_rest (order_last bytes l.i n c.loop-i-test.false) l.invariant) in
     let few : n < 256 = omega (arith, c.count_of-count.ensures, c.requires, limit_small a.section) in
