@@ -53,8 +53,8 @@ pub enum Ending {
     Undecided,
 }
 
-// What filling comes to: the crews are all 0 unless it ends complete. They stand first because behind a field of one byte they are copied
-// more slowly.
+// What filling comes to: the crews are all 0 unless it ends complete. One value by value, as the reply is that it becomes, and no enum that carries
+// the crews. They stand first because behind a field of one byte they are copied more slowly.
 #[derive(Clone, Copy)]
 pub struct Filled {
     pub crews: [u64; Policy::CREWS],

@@ -16,7 +16,8 @@ pub struct Table {
 }
 
 // Any `away` people absent, still `crews` separate crews of at most `size`, each holding every permission of `task`; by the rule of this
-// edition, of which the second asks for two members in each crew.
+// edition, of which the second asks for two members in each crew. An edition is a number and no enum: a policy may have any numbers, and `Policy::new`
+// refuses those that there are not.
 #[derive(Clone, Copy, Debug, PartialEq, Eq)]
 pub struct Policy {
     pub task: u32,
@@ -49,7 +50,8 @@ pub enum Verdict {
     Refused(Refusal),
 }
 
-// The whole reply: specs/Replies sets out which values go with each verdict.
+// The whole reply: specs/Replies sets out which values go with each verdict. One struct that holds eight crews, and no enum that carries what goes with
+// each: the rules name this form, and the theorems on replies speak of its fields.
 #[derive(Clone, Copy, Debug, PartialEq, Eq)]
 pub struct Reply {
     pub verdict: Verdict,
