@@ -1,7 +1,7 @@
 -- The definitions of a byte's reading, by the tests that the code makes. Assumes nothing.
-use Rattle.std.proofs.Common.{◌≡◌, ℕ, ◌+◌, ◌<◌, ◌≤◌, Bool, true, false, ◌≢◌, List, [], ◌∷◌, ◌++◌, length, get_or, drop, sym, ap, ◌∙◌, add-one, drop_of_length-le, drop-cons, eq-eqb, ne_eqb}
+use Rattle.std.proofs.Common.{◌≡◌, ℕ, ◌+◌, ◌<◌, ◌≤◌, Bool, true, false, List, [], ◌++◌, length, get_or, drop, ap, add-one, drop_of_length-le, drop-cons}
 use Rattle.text.specs.Text.{comma}
-use Rattle.table.specs.Understood.{return, quote, turned, parting, separator_from, byte_read_as, plain_byte, plain_from}
+use Rattle.table.specs.Understood.{turned, parting, separator_from, plain_byte, plain_from}
 
 -- ---- what parts cells
 

@@ -14,10 +14,8 @@ use Rattle.table.specs.Inner.Fitting.{between}
 use Rattle.table.specs.Making.{BookOf, IsMade, MakesOf}
 use Rattle.table.specs.declared.Shown.{Shown}
 use Rattle.table.specs.declared.Shown.TheVariants as shown
-use Rattle.table.specs.declared.Trouble.{Trouble}
 use Rattle.lines.specs.declared.TooShort.{TooShort}
 use Rattle.table.specs.declared.NotMade.{NotMade}
-use Rattle.table.specs.declared.NotMade.TheVariants.{Wrong}
 use Rattle.book.specs.declared.FaultAt.{FaultAt}
 
 pub front : (n : ℕ) (l : List ℕ) → between 0 n l ≡ take n l

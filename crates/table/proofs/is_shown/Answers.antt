@@ -1,5 +1,5 @@
 -- A book that is shown as a table is a good one, and the table is its text. Assumes nothing.
-use Rattle.std.proofs.Common.{◌≡◌, true, ℕ, Result, Ok, take, rules}
+use Rattle.std.proofs.Common.{◌≡◌, true, Ok, take, rules}
 use Rattle.table.specs.declared.Shown.TheVariants.{Table}
 use Rattle.table.proofs.Made.{is_book}
 use Rattle.table.proofs.is_shown.Goals as goal
