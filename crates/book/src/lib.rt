@@ -14,7 +14,7 @@ ghost use Rattle.book.specs.Inner.Steps.{width_in};
 
 use accounts::Accounts;
 use roster::{Policy, Refusal};
-use sections::{count_at, cut, policy_from, row_from, section_step, two, width};
+use sections::{count_at, cut, two};
 
 // Permissions of a book at most; a row's holdings have a bit for each.
 pub const PERMISSIONS: usize = 32;
@@ -139,6 +139,14 @@ struct Cursor {
     pub at: usize,
 }
 
+// A book that is read, as its first byte says. A value with the section and the number of listed permissions in it, too, would be no plainer: `read`
+// would make one for each section, for the three functions that take both, and each of their clauses would be longer.
+#[derive(Clone, Copy)]
+struct Reader<'a> {
+    pub bytes: &'a [u8],
+    pub form: Form,
+}
+
 // ---- the book
 
 // The form, of any bytes.
@@ -162,11 +170,12 @@ pub fn read(book: &[u8]) -> Result<Starts, FaultAt>
     ensures kept { book.exit.now ≡ book.entry.now }
 {
     let form = form_of(book);
+    let reader = Reader { bytes: book, form };
     let permissions = form.front();
-    let rows = section_step(book, form, Section::Permissions, 0, permissions)?;
+    let rows = reader.section_step(Section::Permissions, 0, permissions)?;
     let listed = count_at(book, permissions);
-    let policies = section_step(book, form, Section::Rows, listed, rows)?;
-    let end = section_step(book, form, Section::Policies, listed, policies)?;
+    let policies = reader.section_step(Section::Rows, listed, rows)?;
+    let end = reader.section_step(Section::Policies, listed, policies)?;
     if end < book.len() {
         return Err(FaultAt {
             fault: Fault::Excess,
@@ -194,19 +203,21 @@ pub fn starts_in(book: &[u8]) -> Starts
     })
 }
 
-// Where the i-th entry of the section stands that starts here, if it has one.
-fn place_of(book: &[u8], form: Form, section: Section, start: usize, i: usize) -> Option<usize>
-    ensures { result ≡ place_of (width_in form section) book.now start i }
-{
-    if i >= count_at(book, start) {
-        return None;
+impl<'a> Reader<'a> {
+    // Where the i-th entry of the section stands that starts here, if it has one.
+    fn place_of(self, section: Section, start: usize, i: usize) -> Option<usize>
+        ensures { result ≡ place_of (width_in self.entry.form section) self.entry.bytes.now start i }
+    {
+        if i >= count_at(self.bytes, start) {
+            return None;
+        }
+        let wide = self.width(section);
+        let at = start + 1 + wide * i;
+        if cut(self.bytes, at, wide) {
+            return None;
+        }
+        Some(at)
     }
-    let wide = width(form, section);
-    let at = start + 1 + wide * i;
-    if cut(book, at, wide) {
-        return None;
-    }
-    Some(at)
 }
 
 // How many permissions a book lists; a refused one has none.
@@ -225,7 +236,8 @@ pub fn code_at(book: &[u8], starts: Starts, i: usize) -> Option<u16>
     ensures kept { book.exit.now ≡ book.entry.now }
 {
     let form = form_of(book);
-    let at = place_of(book, form, Section::Permissions, starts.permissions, i)?;
+    let reader = Reader { bytes: book, form };
+    let at = reader.place_of(Section::Permissions, starts.permissions, i)?;
     Some(two(book, at) as u16)
 }
 
@@ -235,8 +247,9 @@ pub fn row_at(book: &[u8], starts: Starts, row: usize) -> Option<Row>
     ensures kept { book.exit.now ≡ book.entry.now }
 {
     let form = form_of(book);
-    let at = place_of(book, form, Section::Rows, starts.rows, row)?;
-    Some(row_from(book, form, at))
+    let reader = Reader { bytes: book, form };
+    let at = reader.place_of(Section::Rows, starts.rows, row)?;
+    Some(reader.row_from(at))
 }
 
 // The accounts of a book whose sections start here. A row that is not there has no numbers and holds nothing.
@@ -283,8 +296,9 @@ pub fn policy_in(book: &[u8], start: usize, i: usize) -> Option<Policy>
     ensures kept { book.exit.now ≡ book.entry.now }
 {
     let form = form_of(book);
-    let at = place_of(book, form, Section::Policies, start, i)?;
-    policy_from(book, form, at).ok()
+    let reader = Reader { bytes: book, form };
+    let at = reader.place_of(Section::Policies, start, i)?;
+    reader.policy_from(at).ok()
 }
 
 // The i-th policy of a book; a refused one has none.

@@ -1,11 +1,12 @@
 // What the reader does with one section: the numbers that stand at a place, one count or one entry looked over, and all entries in their turn.
 // specs/Inner/Steps says what each function answers. What is public here is what the writer of a book asks too.
+// The first functions take the bytes and no Reader: a book's form is found by one of them. A place may be past the end, so it is no slice from there.
 ghost use Rattle.std.specs.Prelude.{◌≡◌, true, ◌+◌, ◌<◌, ◌^◌, ltb, length, get_or, None};
 ghost use Rattle.book.specs.Layout.{row_widths, policy_widths, form_has_persons, form_has_editions};
 ghost use Rattle.book.specs.Reading.{number, past_listed, row_amiss, holdings_field, field_of, field_place, cut_place, width, codes, rows_of, policies_of, entry_at, entry_look};
 ghost use Rattle.book.specs.Inner.Steps.{width_in, lead_in, stays_in, out_in, count_fault_in, count_amiss_in, count_in, made_at, look_in, past_entry, step_from, start_at, step_in};
 
-use crate::{Amiss, Cursor, Fault, FaultAt, Form, PERMISSIONS, POLICIES, Row, Section};
+use crate::{Amiss, Cursor, Fault, FaultAt, Form, PERMISSIONS, POLICIES, Reader, Row, Section};
 use roster::{Policy, Refusal};
 
 // The width of a code, in bytes.
@@ -59,7 +60,7 @@ pub(crate) fn four(book: &[u8], at: usize) -> u32
 
 // The count that stands at a place.
 pub(crate) fn count_at(book: &[u8], at: usize) -> usize
-    ensures { result ≡ get_or book.now at 0 }
+    ensures { (result ≡ get_or book.now at 0) × (result < 256) }
 {
     let count = byte(book, at);
     count as usize
@@ -85,7 +86,7 @@ pub fn past_listed(listed: usize, set: u32) -> bool
     set >> listed != 0
 }
 
-// ---- one count or one entry
+// ---- one count or one entry by itself
 
 // A row's width, with its person number or without.
 pub fn row_width(form: Form) -> usize
@@ -104,37 +105,6 @@ pub fn policy_width(form: Form) -> usize
     match form {
         Form::Old | Form::Persons => 7,
         Form::Editions => 8,
-    }
-}
-
-// An entry's width.
-pub(crate) fn width(form: Form, section: Section) -> usize
-    ensures { result ≡ width_in form section }
-{
-    match section {
-        Section::Permissions => CODE_WIDTH,
-        Section::Rows => row_width(form),
-        Section::Policies => policy_width(form),
-    }
-}
-
-// The number that an entry starts with.
-fn lead(book: &[u8], section: Section, at: usize) -> u32
-    ensures { result ≡ lead_in section book.now at }
-{
-    match section {
-        Section::Permissions => two(book, at),
-        Section::Rows | Section::Policies => four(book, at),
-    }
-}
-
-// Whether that number is not above the one before. The first entry has none before it, so any number may come first.
-fn stays(book: &[u8], section: Section, cursor: Cursor) -> bool
-    ensures { result ≡ stays_in section book.now cursor }
-{
-    match cursor.before {
-        None => false,
-        Some(last) => lead(book, section, cursor.at) <= lead(book, section, last),
     }
 }
 
@@ -173,41 +143,6 @@ pub fn count_amiss(section: Section, count: usize) -> Result<(), Amiss>
     Ok(())
 }
 
-// A section's count.
-fn look_count(book: &[u8], section: Section, at: usize) -> Result<(), FaultAt>
-    ensures { result ≡ count_in section book.now at }
-{
-    if cut(book, at, 1) {
-        return Err(FaultAt {
-            fault: Fault::Short,
-            place: at,
-        });
-    }
-    count_amiss(section, count_at(book, at)).map_err(|amiss| FaultAt {
-        fault: amiss.fault,
-        place: at,
-    })
-}
-
-// A permission's code.
-fn look_code(book: &[u8], cursor: Cursor) -> Result<(), FaultAt>
-    ensures { result ≡ entry_look codes book.now 0 cursor.before cursor.at }
-{
-    if cut(book, cursor.at, CODE_WIDTH) {
-        return Err(FaultAt {
-            fault: Fault::Short,
-            place: cursor.at,
-        });
-    }
-    if stays(book, Section::Permissions, cursor) {
-        return Err(FaultAt {
-            fault: Fault::Code,
-            place: cursor.at,
-        });
-    }
-    Ok(())
-}
-
 // Which field of a row its holdings are.
 fn holdings_field(form: Form) -> usize
     ensures { result ≡ holdings_field (form_has_persons form) }
@@ -237,99 +172,6 @@ pub fn row_amiss(form: Form, low: bool, beyond: bool) -> Result<(), Amiss>
     Ok(())
 }
 
-// Where the first field of a row starts that a book which ends in this row does not have whole. Each field of a row is four bytes.
-fn cut_row(book: &[u8], at: usize) -> usize
-    requires { length book.now < at + 12 }
-    ensures { result ≡ cut_place (row_widths true) (length book.now) at }
-{
-    if cut(book, at, 4) {
-        return at;
-    }
-    if cut(book, at + 4, 4) {
-        return at + 4;
-    }
-    at + 8
-}
-
-// The row whose fields stand here. An old one has no person number: its staff number stands for it.
-pub(crate) fn row_from(book: &[u8], form: Form, at: usize) -> Row
-    requires { at + width (rows_of form) < 2 ^ 64 }
-    ensures { result ≡ entry_at (rows_of form) book.now at }
-{
-    let staff = four(book, at);
-    let second = four(book, at + 4);
-    match form {
-        Form::Old => Row {
-            staff,
-            person: staff,
-            holdings: second,
-        },
-        Form::Persons | Form::Editions => Row {
-            staff,
-            person: second,
-            holdings: four(book, at + 8),
-        },
-    }
-}
-
-// A row.
-fn look_row(book: &[u8], form: Form, listed: usize, cursor: Cursor) -> Result<(), FaultAt>
-    ensures { result ≡ entry_look (rows_of form) book.now listed cursor.before cursor.at }
-{
-    let at = cursor.at;
-    if cut(book, at, row_width(form)) {
-        return Err(FaultAt {
-            fault: Fault::Short,
-            place: cut_row(book, at),
-        });
-    }
-    let row = row_from(book, form, at);
-    let low = stays(book, Section::Rows, cursor);
-    let beyond = past_listed(listed, row.holdings);
-    if let Err(amiss) = row_amiss(form, low, beyond) {
-        return Err(FaultAt {
-            fault: amiss.fault,
-            place: at + 4 * amiss.field,
-        });
-    }
-    Ok(())
-}
-
-// The edition of the policy whose fields stand here. An older book names none: it is the first.
-fn edition_from(book: &[u8], form: Form, at: usize) -> u32
-    requires { at + width (policies_of form) < 2 ^ 64 }
-    ensures { result ≡ (entry_at (policies_of form) book.now at).edition }
-{
-    match form {
-        Form::Old | Form::Persons => UNNAMED,
-        Form::Editions => wide(byte(book, at + 7)),
-    }
-}
-
-// The policy whose fields stand here, or its own first fault.
-pub(crate) fn policy_from(book: &[u8], form: Form, at: usize) -> Result<Policy, Refusal>
-    requires { at + width (policies_of form) < 2 ^ 64 }
-    ensures { result ≡ made_at form book.now at }
-{
-    let task = four(book, at);
-    let away = wide(byte(book, at + 4));
-    let crews = count_at(book, at + 5);
-    let size = wide(byte(book, at + 6));
-    let edition = edition_from(book, form, at);
-    Policy::new(task, away, crews, size, edition)
-}
-
-// Where the first field of a policy starts that a book which ends in this policy does not have whole. After P each field is one byte.
-fn cut_policy(book: &[u8], form: Form, at: usize) -> usize
-    requires { length book.now < at + width (policies_of form) }
-    ensures { result ≡ cut_place (policy_widths (form_has_editions form)) (length book.now) at }
-{
-    if cut(book, at, TASK_WIDTH) {
-        return at;
-    }
-    book.len()
-}
-
 // The field that a policy's own refusal speaks of.
 pub fn policy_field(refusal: Refusal) -> usize
     ensures { result ≡ field_of refusal }
@@ -353,49 +195,7 @@ fn policy_offset(refusal: Refusal) -> usize
     }
 }
 
-// A policy.
-fn look_policy(book: &[u8], form: Form, listed: usize, at: usize) -> Result<(), FaultAt>
-    ensures { result ≡ entry_look (policies_of form) book.now listed None at }
-{
-    if cut(book, at, policy_width(form)) {
-        return Err(FaultAt {
-            fault: Fault::Short,
-            place: cut_policy(book, form, at),
-        });
-    }
-    if past_listed(listed, four(book, at)) {
-        return Err(FaultAt {
-            fault: Fault::Task,
-            place: at,
-        });
-    }
-    if let Err(refusal) = policy_from(book, form, at) {
-        return Err(FaultAt {
-            fault: Fault::Policy(refusal),
-            place: at + policy_offset(refusal),
-        });
-    }
-    Ok(())
-}
-
-// An entry of the section.
-fn look_entry(
-    book: &[u8],
-    form: Form,
-    section: Section,
-    listed: usize,
-    cursor: Cursor,
-) -> Result<(), FaultAt>
-    ensures { result ≡ look_in form section book.now listed cursor.before cursor.at }
-{
-    match section {
-        Section::Permissions => look_code(book, cursor),
-        Section::Rows => look_row(book, form, listed, cursor),
-        Section::Policies => look_policy(book, form, listed, cursor.at),
-    }
-}
-
-// ---- a section
+// ---- what is read
 
 impl Cursor {
     // Past an entry of this width.
@@ -410,36 +210,231 @@ impl Cursor {
     }
 }
 
-// The section's entries, from the first one's place on.
-fn entries(
-    book: &[u8],
-    form: Form,
-    section: Section,
-    listed: usize,
-    at: usize,
-    count: usize,
-) -> Result<usize, FaultAt>
-    ensures { result ≡ step_from (look_in form section book.now listed) (width_in form section) (start_at at) count }
-{
-    let wide = width(form, section);
-    let mut cursor = Cursor { before: None, at };
-    for _passed in 0..count {
-        look_entry(book, form, section, listed, cursor)?;
-        cursor = cursor.past(wide);
+impl<'a> Reader<'a> {
+    // An entry's width.
+    pub(crate) fn width(self, section: Section) -> usize
+        ensures { result ≡ width_in self.entry.form section }
+    {
+        match section {
+            Section::Permissions => CODE_WIDTH,
+            Section::Rows => row_width(self.form),
+            Section::Policies => policy_width(self.form),
+        }
     }
-    Ok(cursor.at)
-}
 
-// The section that starts here: its count, then its entries.
-pub(crate) fn section_step(
-    book: &[u8],
-    form: Form,
-    section: Section,
-    listed: usize,
-    at: usize,
-) -> Result<usize, FaultAt>
-    ensures { result ≡ step_in form section book.now listed at }
-{
-    look_count(book, section, at)?;
-    entries(book, form, section, listed, at + 1, count_at(book, at))
+    // The number that an entry starts with.
+    fn lead(self, section: Section, at: usize) -> u32
+        ensures { result ≡ lead_in section self.entry.bytes.now at }
+    {
+        match section {
+            Section::Permissions => two(self.bytes, at),
+            Section::Rows | Section::Policies => four(self.bytes, at),
+        }
+    }
+
+    // Whether that number is not above the one before. The first entry has none before it, so any number may come first.
+    fn stays(self, section: Section, cursor: Cursor) -> bool
+        ensures { result ≡ stays_in section self.entry.bytes.now cursor }
+    {
+        match cursor.before {
+            None => false,
+            Some(last) => self.lead(section, cursor.at) <= self.lead(section, last),
+        }
+    }
+
+    // A section's count.
+    fn look_count(self, section: Section, at: usize) -> Result<(), FaultAt>
+        ensures { result ≡ count_in section self.entry.bytes.now at }
+    {
+        if cut(self.bytes, at, 1) {
+            return Err(FaultAt {
+                fault: Fault::Short,
+                place: at,
+            });
+        }
+        count_amiss(section, count_at(self.bytes, at)).map_err(|amiss| FaultAt {
+            fault: amiss.fault,
+            place: at,
+        })
+    }
+
+    // A permission's code.
+    fn look_code(self, cursor: Cursor) -> Result<(), FaultAt>
+        ensures { result ≡ entry_look codes self.entry.bytes.now 0 cursor.before cursor.at }
+    {
+        if cut(self.bytes, cursor.at, CODE_WIDTH) {
+            return Err(FaultAt {
+                fault: Fault::Short,
+                place: cursor.at,
+            });
+        }
+        if self.stays(Section::Permissions, cursor) {
+            return Err(FaultAt {
+                fault: Fault::Code,
+                place: cursor.at,
+            });
+        }
+        Ok(())
+    }
+
+    // Where the first field of a row starts that a book which ends in this row does not have whole. Each field of a row is four bytes.
+    fn cut_row(self, at: usize) -> usize
+        requires { length self.bytes.now < at + 12 }
+        ensures { result ≡ cut_place (row_widths true) (length self.entry.bytes.now) at }
+    {
+        if cut(self.bytes, at, 4) {
+            return at;
+        }
+        if cut(self.bytes, at + 4, 4) {
+            return at + 4;
+        }
+        at + 8
+    }
+
+    // The row whose fields stand here. An old one has no person number: its staff number stands for it.
+    pub(crate) fn row_from(self, at: usize) -> Row
+        requires { at + width (rows_of self.form) < 2 ^ 64 }
+        ensures { result ≡ entry_at (rows_of self.entry.form) self.entry.bytes.now at }
+    {
+        let staff = four(self.bytes, at);
+        let second = four(self.bytes, at + 4);
+        match self.form {
+            Form::Old => Row {
+                staff,
+                person: staff,
+                holdings: second,
+            },
+            Form::Persons | Form::Editions => Row {
+                staff,
+                person: second,
+                holdings: four(self.bytes, at + 8),
+            },
+        }
+    }
+
+    // A row.
+    fn look_row(self, listed: usize, cursor: Cursor) -> Result<(), FaultAt>
+        ensures { result ≡ entry_look (rows_of self.entry.form) self.entry.bytes.now listed cursor.before cursor.at }
+    {
+        let at = cursor.at;
+        if cut(self.bytes, at, row_width(self.form)) {
+            return Err(FaultAt {
+                fault: Fault::Short,
+                place: self.cut_row(at),
+            });
+        }
+        let row = self.row_from(at);
+        let low = self.stays(Section::Rows, cursor);
+        let beyond = past_listed(listed, row.holdings);
+        if let Err(amiss) = row_amiss(self.form, low, beyond) {
+            return Err(FaultAt {
+                fault: amiss.fault,
+                place: at + 4 * amiss.field,
+            });
+        }
+        Ok(())
+    }
+
+    // The edition of the policy whose fields stand here. An older book names none: it is the first.
+    fn edition_from(self, at: usize) -> u32
+        requires { at + width (policies_of self.form) < 2 ^ 64 }
+        ensures { result ≡ (entry_at (policies_of self.entry.form) self.entry.bytes.now at).edition }
+    {
+        match self.form {
+            Form::Old | Form::Persons => UNNAMED,
+            Form::Editions => wide(byte(self.bytes, at + 7)),
+        }
+    }
+
+    // The policy whose fields stand here, or its own first fault.
+    pub(crate) fn policy_from(self, at: usize) -> Result<Policy, Refusal>
+        requires { at + width (policies_of self.form) < 2 ^ 64 }
+        ensures { result ≡ made_at self.entry.form self.entry.bytes.now at }
+    {
+        let task = four(self.bytes, at);
+        let away = wide(byte(self.bytes, at + 4));
+        let crews = count_at(self.bytes, at + 5);
+        let size = wide(byte(self.bytes, at + 6));
+        let edition = self.edition_from(at);
+        Policy::new(task, away, crews, size, edition)
+    }
+
+    // Where the first field of a policy starts that a book which ends in this policy does not have whole. After P each field is one byte.
+    fn cut_policy(self, at: usize) -> usize
+        requires { length self.bytes.now < at + width (policies_of self.form) }
+        ensures { result ≡ cut_place (policy_widths (form_has_editions self.entry.form)) (length self.entry.bytes.now) at }
+    {
+        if cut(self.bytes, at, TASK_WIDTH) {
+            return at;
+        }
+        self.bytes.len()
+    }
+
+    // A policy.
+    fn look_policy(self, listed: usize, at: usize) -> Result<(), FaultAt>
+        ensures { result ≡ entry_look (policies_of self.entry.form) self.entry.bytes.now listed None at }
+    {
+        if cut(self.bytes, at, policy_width(self.form)) {
+            return Err(FaultAt {
+                fault: Fault::Short,
+                place: self.cut_policy(at),
+            });
+        }
+        if past_listed(listed, four(self.bytes, at)) {
+            return Err(FaultAt {
+                fault: Fault::Task,
+                place: at,
+            });
+        }
+        if let Err(refusal) = self.policy_from(at) {
+            return Err(FaultAt {
+                fault: Fault::Policy(refusal),
+                place: at + policy_offset(refusal),
+            });
+        }
+        Ok(())
+    }
+
+    // An entry of the section.
+    fn look_entry(self, section: Section, listed: usize, cursor: Cursor) -> Result<(), FaultAt>
+        ensures { result ≡ look_in self.entry.form section self.entry.bytes.now listed cursor.before cursor.at }
+    {
+        match section {
+            Section::Permissions => self.look_code(cursor),
+            Section::Rows => self.look_row(listed, cursor),
+            Section::Policies => self.look_policy(listed, cursor.at),
+        }
+    }
+
+    // The section's entries, from the first one's place on.
+    fn entries(
+        self,
+        section: Section,
+        listed: usize,
+        at: usize,
+        count: usize,
+    ) -> Result<usize, FaultAt>
+        ensures { result ≡ step_from (look_in self.entry.form section self.entry.bytes.now listed) (width_in self.entry.form section) (start_at at) count }
+    {
+        let wide = self.width(section);
+        let mut cursor = Cursor { before: None, at };
+        for _passed in 0..count {
+            self.look_entry(section, listed, cursor)?;
+            cursor = cursor.past(wide);
+        }
+        Ok(cursor.at)
+    }
+
+    // The section that starts here: its count, then its entries.
+    pub(crate) fn section_step(
+        self,
+        section: Section,
+        listed: usize,
+        at: usize,
+    ) -> Result<usize, FaultAt>
+        ensures { result ≡ step_in self.entry.form section self.entry.bytes.now listed at }
+    {
+        self.look_count(section, at)?;
+        self.entries(section, listed, at + 1, count_at(self.bytes, at))
+    }
 }

@@ -34,4 +34,4 @@ returns c = let l = c.loop-row in
     accounts_of
     (passed_all 0 64 (held a.book.now a.starts) l.row l.holdings l.invariant.holdings c.loop-row-test.false)
     (passed_all 0 64 (person a.book.now a.starts) l.row l.persons l.invariant.persons c.loop-row-test.false)
-    c.count_at.ensures
+    c.count_at.ensures.0

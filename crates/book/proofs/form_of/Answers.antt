@@ -23,14 +23,14 @@ module _ (first : ℕ) where
 pub returns-then-first-eq-PERSONS-clause-reply : goal.returns-then-first-eq-PERSONS-clause-reply
 unfolding form_of
 returns-then-first-eq-PERSONS-clause-reply c =
-    persons _ (sym c.count_at-first.ensures ∙ c.if-first-eq-PERSONS.true)
+    persons _ (sym c.count_at-first.ensures.0 ∙ c.if-first-eq-PERSONS.true)
 
 pub returns-then-first-eq-EDITIONS-clause-reply : goal.returns-then-first-eq-EDITIONS-clause-reply
 unfolding form_of
 returns-then-first-eq-EDITIONS-clause-reply c =
-    editions _ (λ e. c.if-first-eq-PERSONS.false (c.count_at-first.ensures ∙ e)) (sym c.count_at-first.ensures ∙ c.if-first-eq-EDITIONS.true)
+    editions _ (λ e. c.if-first-eq-PERSONS.false (c.count_at-first.ensures.0 ∙ e)) (sym c.count_at-first.ensures.0 ∙ c.if-first-eq-EDITIONS.true)
 
 pub returns-clause-reply : goal.returns-clause-reply
 unfolding form_of
 returns-clause-reply c =
-    old _ (λ e. c.if-first-eq-PERSONS.false (c.count_at-first.ensures ∙ e)) (λ e. c.if-first-eq-EDITIONS.false (c.count_at-first.ensures ∙ e))
+    old _ (λ e. c.if-first-eq-PERSONS.false (c.count_at-first.ensures.0 ∙ e)) (λ e. c.if-first-eq-EDITIONS.false (c.count_at-first.ensures.0 ∙ e))

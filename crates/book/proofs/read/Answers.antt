@@ -88,7 +88,7 @@ pub returns-in_err-policies-clause-reply : goal.returns-in_err-policies-clause-r
 unfolding read_of
 returns-in_err-policies-clause-reply c = let book = c.args.book.now in
     passed_up _ c.from_residual-in_err-policies.ensures.1
-    ∙ sym (rows_refused c.form_of-form.result book c.front-permissions.ensures c.count_at-listed.ensures
+    ∙ sym (rows_refused c.form_of-form.result book c.front-permissions.ensures c.count_at-listed.ensures.0
     (sym c.section_step.ensures ∙ c.in_ok-rows.was)
     (sym c.section_step-2.ensures ∙ c.in_err-policies.was))
     ∙ ap (λ (x : Form). read_by x book) c.form_of-form.ensures.reply
@@ -97,7 +97,7 @@ pub returns-in_err-end-clause-reply : goal.returns-in_err-end-clause-reply
 unfolding read_of
 returns-in_err-end-clause-reply c = let book = c.args.book.now in
     passed_up _ c.from_residual-in_err-end.ensures.1
-    ∙ sym (policies_refused c.form_of-form.result book c.front-permissions.ensures c.count_at-listed.ensures
+    ∙ sym (policies_refused c.form_of-form.result book c.front-permissions.ensures c.count_at-listed.ensures.0
     (sym c.section_step.ensures ∙ c.in_ok-rows.was)
     (sym c.section_step-2.ensures ∙ c.in_ok-policies.was)
     (sym c.section_step-3.ensures ∙ c.in_err-end.was))
@@ -106,7 +106,7 @@ returns-in_err-end-clause-reply c = let book = c.args.book.now in
 pub returns-then-end-book-clause-reply : goal.returns-then-end-book-clause-reply
 unfolding read_of
 returns-then-end-book-clause-reply c = let book = c.args.book.now in
-    sym (follows c.form_of-form.result book c.front-permissions.ensures c.count_at-listed.ensures
+    sym (follows c.form_of-form.result book c.front-permissions.ensures c.count_at-listed.ensures.0
     (sym c.section_step.ensures ∙ c.in_ok-rows.was)
     (sym c.section_step-2.ensures ∙ c.in_ok-policies.was)
     (sym c.section_step-3.ensures ∙ c.in_ok-end.was)
@@ -116,7 +116,7 @@ returns-then-end-book-clause-reply c = let book = c.args.book.now in
 pub returns-clause-reply : goal.returns-clause-reply
 unfolding read_of
 returns-clause-reply c = let book = c.args.book.now in
-    sym (ended c.form_of-form.result book c.front-permissions.ensures c.count_at-listed.ensures
+    sym (ended c.form_of-form.result book c.front-permissions.ensures c.count_at-listed.ensures.0
     (sym c.section_step.ensures ∙ c.in_ok-rows.was)
     (sym c.section_step-2.ensures ∙ c.in_ok-policies.was)
     (sym c.section_step-3.ensures ∙ c.in_ok-end.was)

@@ -8,7 +8,7 @@ use Rattle.book.specs.Reading.{fields_at, policies_of, entry_at}
 use Rattle.book.specs.declared.Form.{Form}
 use Rattle.book.specs.declared.Form.TheVariants.{Editions}
 use Rattle.book.proofs.Numbers.{number_1}
-use Rattle.book.proofs.sections.edition_from.Goals as goal
+use Rattle.book.proofs.Reader.edition_from.Goals as goal
 
 -- where it stands
 edition_there : (book : List ℕ) (at : ℕ) → get_or book (at + 7) 0 ≡ (entry_at (policies_of Editions) book at).edition
@@ -19,5 +19,5 @@ pub returns-in-Editions : goal.returns-in-Editions
 returns-in-Editions c = let a = c.args in
     c.wide.ensures
     ∙ c.byte.ensures
-    ∙ edition_there a.book.now a.at
-    ∙ ap (λ (form : Form). (entry_at (policies_of form) a.book.now a.at).edition) (sym c.in-Editions.is)
+    ∙ edition_there a.self.bytes.now a.at
+    ∙ ap (λ (form : Form). (entry_at (policies_of form) a.self.bytes.now a.at).edition) (sym c.in-Editions.is)

@@ -8,7 +8,7 @@ use Rattle.book.specs.Reading.{number, fields_at, rows_of, entry_at}
 use Rattle.book.specs.declared.Form.{Form}
 use Rattle.book.specs.declared.Form.TheVariants.{Old, Persons}
 use Rattle.book.specs.declared.Row.{Row}
-use Rattle.book.proofs.sections.row_from.Goals as goal
+use Rattle.book.proofs.Reader.row_from.Goals as goal
 
 -- a row of the numbers that stand here is the row that stands here
 module _ (book : List ℕ) (at : ℕ) {s h : ℕ} (staff : s ≡ number 4 book at) where
@@ -23,13 +23,13 @@ module _ (book : List ℕ) (at : ℕ) {s h : ℕ} (staff : s ≡ number 4 book a
 
 pub returns-in-Old : goal.returns-in-Old
 returns-in-Old c = let a = c.args in
-    old_row a.book.now a.at c.four-staff.ensures c.four-second.ensures
-    ∙ ap (λ (form : Form). entry_at (rows_of form) a.book.now a.at) (sym c.in-Old.is)
+    old_row a.self.bytes.now a.at c.four-staff.ensures c.four-second.ensures
+    ∙ ap (λ (form : Form). entry_at (rows_of form) a.self.bytes.now a.at) (sym c.in-Old.is)
 
 pub returns-in-Persons : goal.returns-in-Persons
 returns-in-Persons c = let a = c.args in
-    let here = new_row a.book.now a.at c.four-staff.ensures c.four-second.ensures c.four.ensures in
+    let here = new_row a.self.bytes.now a.at c.four-staff.ensures c.four-second.ensures c.four.ensures in
     elim c.in-Persons.is [
-      | inl e ↦ here ∙ ap (λ (form : Form). entry_at (rows_of form) a.book.now a.at) (sym e)
-      | inr e ↦ here ∙ ap (λ (form : Form). entry_at (rows_of form) a.book.now a.at) (sym e)
+      | inl e ↦ here ∙ ap (λ (form : Form). entry_at (rows_of form) a.self.bytes.now a.at) (sym e)
+      | inr e ↦ here ∙ ap (λ (form : Form). entry_at (rows_of form) a.self.bytes.now a.at) (sym e)
     ]

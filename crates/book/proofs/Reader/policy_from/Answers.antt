@@ -9,7 +9,7 @@ use Rattle.book.specs.Reading.{number, fields_at, policies_of, entry_at}
 use Rattle.book.specs.Inner.Steps.{made_at}
 use Rattle.book.specs.declared.Form.{Form}
 use Rattle.book.proofs.Numbers.{number_1}
-use Rattle.book.proofs.sections.policy_from.Goals as goal
+use Rattle.book.proofs.Reader.policy_from.Goals as goal
 
 -- a policy of the numbers that stand here is the policy that stands here
 made_here : (form : Form) (book : List ℕ) (at : ℕ) {P s d t e : ℕ} → P ≡ number 4 book at → s ≡ get_or book (at + 4) 0 → d ≡ get_or book (at + 5) 0
@@ -19,9 +19,9 @@ made_here form book at eP es ed et ee = rw (eP, es, ed, et, ee) (simp (number_1,
 
 pub returns : goal.returns
 returns c = c.new.ensures.made
-    ∙ made_here c.args.form _ _
+    ∙ made_here c.args.self.form _ _
     c.four-task.ensures
     (c.wide-away.ensures ∙ c.byte.ensures)
-    c.count_at-crews.ensures
+    c.count_at-crews.ensures.0
     (c.wide-size.ensures ∙ c.byte-2.ensures)
     c.edition_from-edition.ensures
