@@ -1,6 +1,6 @@
 // What is amiss with values, in reading order: a section's count, then its entries, each beside the one before. specs/Inner/Looks says what
-// each function answers. A section and an index with its bound travel together, but a value of the two would be made for each call and taken apart
-// in it: the index comes from a loop over one section, and each section looks into an array of its own.
+// each function answers. A section and an index that is below its limit stay two parameters, here and in `put`: a value of both would be made anew
+// for each entry and taken apart again, as each section has an array of its own, with its own limit.
 ghost use Rattle.std.specs.Prelude.{◌≡◌, ◌≤◌, ◌<◌, true, None};
 ghost use Rattle.roster.specs.Limits.{row_limit};
 ghost use Rattle.book.specs.Layout.{permission_limit, policy_limit};

@@ -1,6 +1,6 @@
-// The bytes of values, appended at a place of a lent buffer. specs/Inner/Puts says what each function appends. The buffer and a place in it stay two
-// parameters, with a buffer's place as the answer, as `text::put` has them: a struct of the two would hold a `&mut`, and every clause speak of both
-// ends of it.
+// The bytes of values, appended at a place of a lent buffer. specs/Inner/Puts says what each function appends. The buffer, a place and the form stay
+// parameters, and the next place the answer, as `text::put` has it: a struct of them would hold a `&mut`, and each function would have to promise,
+// beside what it appends, that the struct keeps the same one.
 ghost use Rattle.std.specs.Prelude.{◌≡◌, ◌%◌, ◌≤◌, ◌<◌, length};
 ghost use Rattle.book.specs.Layout.{little_endian, field_bytes, row_widths, row_fields, policy_widths, policy_fields, form_has_persons, form_has_editions, lead, bytes_of};
 ghost use Rattle.text.specs.Text.{Appended};
