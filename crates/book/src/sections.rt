@@ -20,13 +20,6 @@ const UNNAMED: u32 = 1;
 
 // ---- what stands at a place
 
-// As a wider number.
-fn wide(byte: u8) -> u32
-    ensures { result ≡ byte }
-{
-    byte as u32
-}
-
 // The byte at a place; past the end there are zeros.
 fn byte(book: &[u8], at: usize) -> u8
     ensures { result ≡ get_or book.now at 0 }
@@ -41,8 +34,8 @@ pub(crate) fn two(book: &[u8], at: usize) -> u32
     if at >= book.len() {
         return 0;
     }
-    let low = wide(byte(book, at));
-    let high = wide(byte(book, at + 1));
+    let low = u32::from(byte(book, at));
+    let high = u32::from(byte(book, at + 1));
     low + 256 * high
 }
 
@@ -62,8 +55,7 @@ pub(crate) fn four(book: &[u8], at: usize) -> u32
 pub(crate) fn count_at(book: &[u8], at: usize) -> usize
     ensures { (result ≡ get_or book.now at 0) × (result < 256) }
 {
-    let count = byte(book, at);
-    count as usize
+    usize::from(byte(book, at))
 }
 
 // Whether the book ends before `width` bytes from here are whole.
@@ -342,7 +334,7 @@ impl<'a> Reader<'a> {
     {
         match self.form {
             Form::Old | Form::Persons => UNNAMED,
-            Form::Editions => wide(byte(self.bytes, at + 7)),
+            Form::Editions => u32::from(byte(self.bytes, at + 7)),
         }
     }
 
@@ -352,9 +344,9 @@ impl<'a> Reader<'a> {
         ensures { result ≡ made_at self.entry.form self.entry.bytes.now at }
     {
         let task = four(self.bytes, at);
-        let away = wide(byte(self.bytes, at + 4));
+        let away = u32::from(byte(self.bytes, at + 4));
         let crews = count_at(self.bytes, at + 5);
-        let size = wide(byte(self.bytes, at + 6));
+        let size = u32::from(byte(self.bytes, at + 6));
         let edition = self.edition_from(at);
         Policy::new(task, away, crews, size, edition)
     }

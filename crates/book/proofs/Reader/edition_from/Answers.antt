@@ -17,7 +17,7 @@ edition_there book at = simp (number_1, add_assoc)
 
 pub returns-in-Editions : goal.returns-in-Editions
 returns-in-Editions c = let a = c.args in
-    c.wide.ensures
+    c.from.ensures
     ∙ c.byte.ensures
     ∙ edition_there a.self.bytes.now a.at
     ∙ ap (λ (form : Form). (entry_at (policies_of form) a.self.bytes.now a.at).edition) (sym c.in-Editions.is)

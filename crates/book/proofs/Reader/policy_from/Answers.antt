@@ -21,7 +21,7 @@ pub returns : goal.returns
 returns c = c.new.ensures.made
     ∙ made_here c.args.self.form _ _
     c.four-task.ensures
-    (c.wide-away.ensures ∙ c.byte.ensures)
+    (c.from-away.ensures ∙ c.byte.ensures)
     c.count_at-crews.ensures.0
-    (c.wide-size.ensures ∙ c.byte-2.ensures)
+    (c.from-size.ensures ∙ c.byte-2.ensures)
     c.edition_from-edition.ensures
