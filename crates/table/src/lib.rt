@@ -132,7 +132,7 @@ pub fn show(book: &[u8], out: &mut [u8]) -> Result<Shown, TooShort>
     }
     match book::read(book) {
         Err(refused) => Ok(Shown::Bad(lines::bad_line(out, refused.fault.number(), refused.place))),
-        Ok(_) => Ok(Shown::Table(put_table(out, 0, values::of_book(book)))),
+        Ok(_) => Ok(Shown::Table(put_table(out, 0, &values::of_book(book)))),
     }
 }
 

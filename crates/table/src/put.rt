@@ -15,25 +15,25 @@ use values::Values;
 // ---- the values by their index
 
 // The code of this index.
-fn code_in(contents: Values, i: usize) -> u64
+fn code_in(contents: &Values, i: usize) -> u64
     requires { i < permission_limit }
-    ensures { result ≡ code_in contents i }
+    ensures { result ≡ code_in contents.now i }
 {
     u64::from(contents.codes[i])
 }
 
 // The row of this index.
-fn row_in(contents: Values, i: usize) -> Row
+fn row_in(contents: &Values, i: usize) -> Row
     requires { i < row_limit }
-    ensures { result ≡ row_in contents i }
+    ensures { result ≡ row_in contents.now i }
 {
     contents.rows[i]
 }
 
 // The policy of this index.
-fn policy_in(contents: Values, i: usize) -> Policy
+fn policy_in(contents: &Values, i: usize) -> Policy
     requires { i < policy_limit }
-    ensures { result ≡ policy_given contents i }
+    ensures { result ≡ policy_given contents.now i }
 {
     contents.policies[i]
 }
@@ -104,9 +104,9 @@ fn put_marks(out: &mut [u8], at: usize, listed: usize, set: u32) -> usize
 
 // The codes of a heading. Three functions ask for no more codes than there is room for: of the values as a whole `Counted` says it, and a type for
 // such values would be no plainer, made once by `put_table`.
-fn put_codes(out: &mut [u8], at: usize, contents: Values) -> usize
-    requires { contents.code_count ≤ permission_limit }
-    ensures { Appended (code_cells contents) out.old at out.new result }
+fn put_codes(out: &mut [u8], at: usize, contents: &Values) -> usize
+    requires { contents.now.code_count ≤ permission_limit }
+    ensures { Appended (code_cells contents.now) out.old at out.new result }
 {
     let mut next = at;
     for i in 0..contents.code_count {
@@ -118,9 +118,9 @@ fn put_codes(out: &mut [u8], at: usize, contents: Values) -> usize
 // ---- lines
 
 // The rows' heading.
-fn put_row_heading(out: &mut [u8], at: usize, persons: bool, contents: Values) -> usize
-    requires { contents.code_count ≤ permission_limit }
-    ensures { Appended (line (row_heading persons (contents_for contents).codes)) out.old at out.new result }
+fn put_row_heading(out: &mut [u8], at: usize, persons: bool, contents: &Values) -> usize
+    requires { contents.now.code_count ≤ permission_limit }
+    ensures { Appended (line (row_heading persons (contents_for contents.now).codes)) out.old at out.new result }
 {
     let staffed = text::word(out, at, b"staff");
     let named = put_word(out, staffed, persons, b"person");
@@ -139,9 +139,9 @@ fn put_row(out: &mut [u8], at: usize, persons: bool, listed: usize, row: Row) ->
 }
 
 // All rows.
-fn put_rows(out: &mut [u8], at: usize, persons: bool, contents: Values) -> usize
-    requires { contents.row_count ≤ row_limit }
-    ensures { Appended (rows_text persons contents) out.old at out.new result }
+fn put_rows(out: &mut [u8], at: usize, persons: bool, contents: &Values) -> usize
+    requires { contents.now.row_count ≤ row_limit }
+    ensures { Appended (rows_text persons contents.now) out.old at out.new result }
 {
     let mut next = at;
     for i in 0..contents.row_count {
@@ -151,9 +151,9 @@ fn put_rows(out: &mut [u8], at: usize, persons: bool, contents: Values) -> usize
 }
 
 // The policies' heading.
-fn put_policy_heading(out: &mut [u8], at: usize, editions: bool, contents: Values) -> usize
-    requires { contents.code_count ≤ permission_limit }
-    ensures { Appended (line (policy_heading editions (contents_for contents).codes)) out.old at out.new result }
+fn put_policy_heading(out: &mut [u8], at: usize, editions: bool, contents: &Values) -> usize
+    requires { contents.now.code_count ≤ permission_limit }
+    ensures { Appended (line (policy_heading editions (contents_for contents.now).codes)) out.old at out.new result }
 {
     let called = text::word(out, at, b"s,d,t");
     let named = put_word(out, called, editions, b"edition");
@@ -174,9 +174,9 @@ fn put_policy(out: &mut [u8], at: usize, editions: bool, listed: usize, policy: 
 }
 
 // All policies.
-fn put_policies(out: &mut [u8], at: usize, editions: bool, contents: Values) -> usize
-    requires { contents.policy_count ≤ policy_limit }
-    ensures { Appended (policies_text editions contents) out.old at out.new result }
+fn put_policies(out: &mut [u8], at: usize, editions: bool, contents: &Values) -> usize
+    requires { contents.now.policy_count ≤ policy_limit }
+    ensures { Appended (policies_text editions contents.now) out.old at out.new result }
 {
     let mut next = at;
     for i in 0..contents.policy_count {
@@ -194,9 +194,9 @@ fn put_policies(out: &mut [u8], at: usize, editions: bool, contents: Values) -> 
 // ---- the table
 
 // The table of these values, of which no more are meant than their arrays have.
-pub(crate) fn put_table(out: &mut [u8], at: usize, contents: Values) -> usize
-    requires { Counted contents }
-    ensures { Appended (table_text_of (contents_for contents)) out.old at out.new result }
+pub(crate) fn put_table(out: &mut [u8], at: usize, contents: &Values) -> usize
+    requires { Counted contents.now }
+    ensures { Appended (table_text_of (contents_for contents.now)) out.old at out.new result }
 {
     let form = contents.form;
     let persons = has_persons(form);

@@ -11,10 +11,10 @@ use Rattle.table.proofs.put.put_policies.Goals as goal
 pub loop-i-preserved : goal.loop-i-preserved
 loop-i-preserved c = let l = c.loop-i in
     let a = c.args in
-    step _ (with_rest (order_next (entry a.editions a.contents) l.i a.contents.policy_count c.loop-i-test.true) l.invariant)
-    (read_as (ap (λ (p : Policy). line (policy_cells a.editions a.contents.code_count p)) c.policy_in.ensures) c.put_policy-next.ensures)
+    step _ (with_rest (order_next (entry a.editions a.contents.now) l.i a.contents.now.policy_count c.loop-i-test.true) l.invariant)
+    (read_as (ap (λ (p : Policy). line (policy_cells a.editions a.contents.now.code_count p)) c.policy_in.ensures) c.put_policy-next.ensures)
 
 pub returns : goal.returns
 returns c = let l = c.loop-i in
     let a = c.args in
-    finish (with_rest (order_last (entry a.editions a.contents) l.i a.contents.policy_count c.loop-i-test.false) l.invariant)
+    finish (with_rest (order_last (entry a.editions a.contents.now) l.i a.contents.now.policy_count c.loop-i-test.false) l.invariant)

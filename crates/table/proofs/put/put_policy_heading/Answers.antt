@@ -5,4 +5,4 @@ use Rattle.table.proofs.put.put_policy_heading.Goals as goal
 
 pub returns : goal.returns
 returns c = let a = c.args in
-    read_as (policy_heading_lem a.editions a.contents) (c.word-called.ensures.appended then (c.put_word-named.ensures then (c.put_codes-coded.ensures then c.put.ensures)))
+    read_as (policy_heading_lem a.editions a.contents.now) (c.word-called.ensures.appended then (c.put_word-named.ensures then (c.put_codes-coded.ensures then c.put.ensures)))

@@ -5,4 +5,4 @@ use Rattle.table.proofs.put.put_row_heading.Goals as goal
 
 pub returns : goal.returns
 returns c = let a = c.args in
-    read_as (row_heading_lem a.persons a.contents) (c.word-staffed.ensures.appended then (c.put_word-named.ensures then (c.put_codes-coded.ensures then c.put.ensures)))
+    read_as (row_heading_lem a.persons a.contents.now) (c.word-staffed.ensures.appended then (c.put_word-named.ensures then (c.put_codes-coded.ensures then c.put.ensures)))

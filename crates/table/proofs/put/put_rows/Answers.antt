@@ -11,10 +11,10 @@ use Rattle.table.proofs.put.put_rows.Goals as goal
 pub loop-i-preserved : goal.loop-i-preserved
 loop-i-preserved c = let l = c.loop-i in
     let a = c.args in
-    step _ (with_rest (order_next (entry a.persons a.contents) l.i a.contents.row_count c.loop-i-test.true) l.invariant)
-    (read_as (ap (λ (row : Row). line (row_cells a.persons a.contents.code_count row)) c.row_in.ensures) c.put_row-next.ensures)
+    step _ (with_rest (order_next (entry a.persons a.contents.now) l.i a.contents.now.row_count c.loop-i-test.true) l.invariant)
+    (read_as (ap (λ (row : Row). line (row_cells a.persons a.contents.now.code_count row)) c.row_in.ensures) c.put_row-next.ensures)
 
 pub returns : goal.returns
 returns c = let l = c.loop-i in
     let a = c.args in
-    finish (with_rest (order_last (entry a.persons a.contents) l.i a.contents.row_count c.loop-i-test.false) l.invariant)
+    finish (with_rest (order_last (entry a.persons a.contents.now) l.i a.contents.now.row_count c.loop-i-test.false) l.invariant)

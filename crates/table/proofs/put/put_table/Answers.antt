@@ -22,7 +22,7 @@ pub put_policies-requires : goal.put_policies-requires
 put_policies-requires c = c.requires Policies
 
 pub returns : goal.returns
-returns c = let v = c.args.contents in
+returns c = let v = c.args.contents.now in
     let form = ap₂
     (λ (p e : Bool). line (row_heading p (contents_for v).codes) ++ (rows_text p v ++ ((newline ∷ []) ++ (line (policy_heading e (contents_for v).codes) ++ policies_text e v))))
     c.has_persons-persons.ensures
