@@ -1,4 +1,5 @@
-// What a line says, and what is answered.
+// What a line says, and what is answered. The board, the line and the terminal go together from one function to the next, and the terminal is a handle: a
+// value of the three would be made for each line and taken apart by each answer.
 ghost use Rattle.std.specs.Prelude.{◌<◌, IfOk};
 
 use crate::board::Board;

@@ -1,5 +1,6 @@
 // The cases stand in files, in groups: a line `# NAME`, and below it a line for each case, `QUESTION = WANTED`. Lines that begin with a space, and
-// empty ones, are passed over.
+// empty ones, are passed over. The allocator and the files are handles, lent to whoever needs them with the line that is read: one value of the three would
+// be no plainer.
 use crate::books::{TEXT, book_at, text};
 use crate::words::{around, first_word, number, word};
 use crate::{asked, explained, listed, pages, parts, reader, sheets};

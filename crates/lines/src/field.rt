@@ -1,4 +1,5 @@
-// The last field of a line: sets of persons by their numbers. Each function appends what its definition in specs/Lines.antt says.
+// The last field of a line: sets of persons by their numbers, which go with the buffer from function to function; why these are parameters says text.
+// Each function appends what its definition in specs/Lines.antt says.
 ghost use Rattle.std.specs.Prelude.{◌≡◌, [], ◌∷◌, map, ◌<◌, ◌^◌, length, get_or};
 ghost use Rattle.roster.specs.Limits.{row_limit, crew_limit};
 ghost use Rattle.text.specs.Text.{Appended, space, dash, decimal, marked};

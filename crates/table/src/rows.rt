@@ -1,4 +1,5 @@
-// The rows of a table and their heading: staff numbers, person numbers, and what is held.
+// The rows of a table and their heading: staff numbers, person numbers, and what is held. A cell and its column come from the loop over a line's cells: a
+// value of the two would be made for each cell.
 use crate::cells::{code_of, number_of, read_mark};
 use crate::draft::{Draft, Part};
 use crate::{Trouble, What};

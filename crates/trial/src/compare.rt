@@ -1,4 +1,5 @@
-// The comparisons, each counted by its kind, with the differences found.
+// The comparisons, each counted by its kind, with the differences found. What came, what was wanted and of which question are compared in one place and
+// made in another: a value of the three would be made for each comparison.
 use crate::known::{ANSWERS, Answer, LISTED, Wanted};
 use crate::question::Question;
 use reasons::{Explained, Explanation};

@@ -1,4 +1,4 @@
-// The words. Each function writes what it is named for at a place of the buffer and answers the place behind it.
+// The words. The buffer and its place are parameters, as text says. Each function writes what it is named for at a place of the buffer and answers the place behind it.
 use roster::Policy;
 
 // What stands before a name: nothing before the first, "and" before the last, else a comma.

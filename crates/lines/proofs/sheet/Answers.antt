@@ -13,7 +13,6 @@ use Rattle.book.specs.Faults.{fault_number}
 use Rattle.book.specs.Reading.{read_of}
 use Rattle.book.specs.Parts.{policy_count_of}
 use Rattle.book.specs.Promises.{Bytes}
-use Rattle.book.specs.declared.Fault.{Fault}
 use Rattle.book.specs.declared.Starts.{Starts}
 use Rattle.lines.specs.declared.TooShort.{TooShort}
 use Rattle.text.specs.Text.{Room, Appended}
