@@ -32,32 +32,20 @@ def lines_with(pattern):
 
 
 def functions():
-    """Each function: file, line, name, parameters, contract, body."""
-    head = re.compile(r"^\s*(?:pub(?:\([a-z]+\))? )?fn (\w+)")
+    """Each function with a body, as the layout has it: file, line, name, signature, clauses, body."""
+    head = re.compile(r"^( *)(?:pub(?:\([a-z]+\))? )?fn (\w+)")
     for path, lines in sources():
-        number = 0
-        while number < len(lines):
-            match = head.match(lines[number])
-            if not match:
-                number += 1
+        for start, line in enumerate(lines):
+            match = head.match(line)
+            if not match or line.rstrip().endswith(";"):
                 continue
-            start, indent = number, len(lines[number]) - len(lines[number].lstrip())
-            end = start
-            while end + 1 < len(lines) and lines[end] != " " * indent + "}" and not lines[end].rstrip().endswith("}") or end == start and not lines[end].rstrip().endswith("}"):
-                end += 1
-                if lines[end] == " " * indent + "}":
-                    break
-            while end < len(lines) and lines[end] != " " * indent + "}":
-                if end == start and lines[end].rstrip().endswith("}"):
-                    break
-                end += 1
-            whole = lines[start : end + 1]
-            opening = next((i for i, line in enumerate(whole) if line.rstrip() in ("{", " " * indent + "{") or line.rstrip().endswith(" {") and not line.strip().startswith(("requires", "ensures"))), 0)
-            contract = [line.strip() for line in whole if line.strip().startswith(("requires", "ensures"))]
-            signature = " ".join(line.strip() for line in whole[: opening + 1])
-            signature = signature.split(" requires")[0].split(" ensures")[0]
-            yield path, start + 1, match.group(1), signature, contract, whole[opening + 1 : -1]
-            number = end + 1
+            indent = match.group(1)
+            end = lines.index(indent + "}", start)
+            whole = [line.strip() for line in lines[start:end]]
+            clauses = [line for line in whole if line.startswith(("requires", "ensures"))]
+            opening = next(i for i, line in enumerate(whole) if line.endswith("{") and line not in clauses)
+            signature = re.split(r" (?:requires|ensures) ", " ".join(whole[: opening + 1]))[0]
+            yield path, start + 1, match.group(2), signature, clauses, whole[opening + 1 :]
 
 
 def twins():
