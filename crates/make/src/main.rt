@@ -12,7 +12,7 @@ ghost use Rattle.table.specs.Understood.{understood};
 ghost use Rattle.table.specs.Making.{BookOf};
 ghost use Rattle.make.specs.Said.{BookOfInput, Tells};
 
-use output::{Said, Stream};
+use output::Said;
 use std::io;
 use table::NotMade;
 
@@ -26,15 +26,15 @@ fn made(table: &[u8], out: &mut [u8]) -> Said
 {
     match table::make(table, out) {
         Ok(length) => Said {
-            stream: Stream::Output,
+            stream: output::OUTPUT,
             length,
         },
         Err(NotMade::Wrong(trouble)) => Said {
-            stream: Stream::Errors,
+            stream: output::ERRORS,
             length: words::line(out, trouble),
         },
         Err(NotMade::TooShort) => Said {
-            stream: Stream::Errors,
+            stream: output::ERRORS,
             length: 0,
         },
     }

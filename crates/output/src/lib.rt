@@ -8,17 +8,15 @@ ghost use Rattle.output.specs.Says.{errors, Says};
 
 use std::io::Write;
 
-// The streams: standard output and standard error.
-#[derive(Clone, Copy)]
-pub enum Stream {
-    Output,
-    Errors,
-}
+// The streams by their numbers: standard output and standard error. No enum: `written` takes any number, and promises to answer for each.
+pub const OUTPUT: i32 = 1;
+
+pub const ERRORS: i32 = 2;
 
 // What is to be written: so many bytes from the front of the buffer, to this stream.
 #[derive(Clone, Copy)]
 pub struct Said {
-    pub stream: Stream,
+    pub stream: i32,
     pub length: usize,
 }
 
@@ -29,18 +27,20 @@ pub fn complaint(words: &[u8], out: &mut [u8]) -> Said
 {
     let length = text::word(out, 0, words);
     Said {
-        stream: Stream::Errors,
+        stream: ERRORS,
         length,
     }
 }
 
-// Writes what is said, all of the buffer where that has not so many bytes, and answers whether all of it was written.
+// Writes what is said, all of the buffer where that has not so many bytes, and answers whether all of it was written. There is no other stream than the
+// two that are lent here.
 pub fn written<W: Write, E: Write>(output: &mut W, errors: &mut E, said: Said, out: &[u8]) -> bool
     ensures kept { out.exit.now ≡ out.entry.now }
 {
     let text = out.get(..said.length).unwrap_or(out);
     match said.stream {
-        Stream::Output => output.write_all(text).is_ok(),
-        Stream::Errors => errors.write_all(text).is_ok(),
+        OUTPUT => output.write_all(text).is_ok(),
+        ERRORS => errors.write_all(text).is_ok(),
+        _ => false,
     }
 }

@@ -9,7 +9,7 @@ ghost use Rattle.input.specs.Input.{Settled};
 ghost use Rattle.output.specs.Says.{Says};
 ghost use Rattle.sheet.specs.Said.{stream_of, text_of};
 
-use output::{Said, Stream};
+use output::Said;
 use std::io;
 
 // What is said of the input that was read: the sheet of a whole one, else a complaint.
@@ -22,7 +22,7 @@ fn answer(book: &[u8], input: io::Result<usize>, out: &mut [u8]) -> Said
     };
     let length = lines::sheet(&book[..size], out).unwrap_or(0);
     Said {
-        stream: Stream::Output,
+        stream: output::OUTPUT,
         length,
     }
 }

@@ -9,7 +9,7 @@ ghost use Rattle.input.specs.Input.{Settled};
 ghost use Rattle.output.specs.Says.{Says};
 ghost use Rattle.show.specs.Said.{stream_of, text_of};
 
-use output::{Said, Stream};
+use output::Said;
 use std::io;
 use table::Shown;
 
@@ -27,7 +27,7 @@ fn answer(book: &[u8], input: io::Result<usize>, out: &mut [u8]) -> Said
         Err(_) => 0,
     };
     Said {
-        stream: Stream::Output,
+        stream: output::OUTPUT,
         length,
     }
 }
