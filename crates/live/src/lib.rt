@@ -131,8 +131,9 @@ impl Roster {
         }
     }
 
-    // This staff number at this place, with no holdings. Each change below asks for a place below the limit by itself: a type for such places would be no
-    // plainer, as a place comes from `place_of` or `free_place` and goes into `Told` as a number.
+    // This staff number at this place, with no holdings. Each change below asks for a place below the limit, and for a permission below 32, by itself: types
+    // for such places and permissions would be no plainer, as a place comes from `place_of` or `free_place` and goes into `Told` as a number, and a
+    // permission is tested once and handed on.
     fn hired(mut self, place: usize, number: u32) -> Roster
         requires { place < row_limit }
         ensures { result ≡ hired_at place number self }

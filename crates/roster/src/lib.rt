@@ -8,7 +8,8 @@ ghost use Rattle.roster.specs.Meaning.{least_members};
 ghost use Rattle.roster.specs.Refusals.{number_of, policy_ruling, ruling_of, named_ruling_of, made_of};
 ghost use Rattle.roster.specs.Replies.{no_crews, reply_with};
 
-// Who holds what: bit i of a row's holdings is permission i. Holdings past the row count play no part.
+// Who holds what: bit i of a row's holdings is permission i. Holdings past the row count play no part. An array of 64 with its count beside: the rules
+// name this form.
 #[derive(Clone, Copy)]
 pub struct Table {
     pub holdings: [u32; Policy::ROWS],

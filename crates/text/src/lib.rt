@@ -2,7 +2,8 @@
 // nothing else, and answers the place after it. What does not fit is left out: a caller who knows that there is room knows that all stands there.
 // The buffer and its place, `(out: &mut [u8], at: usize)`, stand beside each other here and in every crate above that writes: a page that holds the lent
 // buffer was tried and proves, but each function that makes one of a lent buffer needs a step that cites a name of the toolchain's own, and every clause
-// has to say that the buffer is still the same: no plainer.
+// has to say that the buffer is still the same: no plainer. Nor are they `Display` and `write!`: docs/PROMISES.md names each, and the sheet's definition
+// is made of what they append.
 #![tactic(auto)]
 
 ghost use Rattle.std.specs.Prelude.{◌≡◌, [], ◌∷◌, ◌<◌};
