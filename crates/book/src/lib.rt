@@ -220,7 +220,7 @@ impl<'a> Reader<'a> {
     }
 }
 
-// How many permissions a book lists; a refused one has none.
+// How many permissions a book lists; a refused one has none. `policy_count` is alike, but for its section: docs/PROMISES.md names both.
 #[tactic(auto, unfolding(crate::specs::Parts::code_count_of))]
 pub fn code_count(book: &[u8]) -> usize
     ensures reply { result ≡ code_count_of book.now }

@@ -27,7 +27,7 @@ fn byte(book: &[u8], at: usize) -> u8
     if at < book.len() { book[at] } else { 0 }
 }
 
-// The little endian number of two bytes.
+// The little endian number of two bytes. The sum stands as `number` has it, to which `from_le_bytes` would have to be tied: no plainer. So it is with four.
 pub(crate) fn two(book: &[u8], at: usize) -> u32
     ensures { (result ≡ number 2 book.now at) × (result < 2 ^ 16) }
 {
