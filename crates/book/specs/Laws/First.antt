@@ -120,3 +120,43 @@ unfolding first_fault
 first-append passed good [] m = refl
 first-append passed good (Ok t ∷ l) m = first-append passed good l m
 first-append passed good (Err e ∷ l) m = refl
+
+-- ---- the same in whichever words a fault is told
+
+-- what is told of a list: `told` of its first fault, or what there is without one
+unfoldable pub first_told : {R : Type 0} → (Fault → ℕ → R) → R → List Look → R
+first_told told good [] = good
+first_told told good (x ∷ l) = elim x [ Ok t ↦ first_told told good l | Err e ↦ told e.fault e.place ]
+
+-- the first fault is what is told where it is told as it is
+pub first_fault_told : {R : Type 0} (good : R) (l : List Look) → first_fault good l ≡ first_told refused (Ok good) l
+unfolding first_fault first_told
+first_fault_told good [] = refl
+first_fault_told good (Ok t ∷ l) = first_fault_told good l
+first_fault_told good (Err e ∷ l) = refl
+
+-- and any words are had of it by its two cases
+pub told_of_first : {R : Type 0} (told : Fault → ℕ → R) (good : R) (l : List Look)
+    → first_told told good l ≡ elim (first_fault good l) [ Ok r ↦ r | Err e ↦ told e.fault e.place ]
+unfolding first_fault first_told
+told_of_first told good [] = refl
+told_of_first told good (Ok t ∷ l) = told_of_first told good l
+told_of_first told good (Err e ∷ l) = refl
+
+pub all_sound_told : {R : Type 0} (told : Fault → ℕ → R) (good : R) (l : List Look) → AllSound l → first_told told good l ≡ good
+unfolding Each first_told
+all_sound_told told good [] h = refl
+all_sound_told told good (x ∷ l) h = rw h.0 (all_sound_told told good l h.1)
+
+pub first_faulty_told : {R : Type 0} (told : Fault → ℕ → R) (good : R) (l : List Look) (f : Fault) (at : ℕ) (m : List Look) → AllSound l
+    → first_told told good (l ++ (refused f at ∷ m)) ≡ told f at
+unfolding Each first_told
+first_faulty_told told good [] f at m h = refl
+first_faulty_told told good (x ∷ l) f at m h = rw h.0 (first_faulty_told told good l f at m h.1)
+
+pub first_append_told : {R : Type 0} (told : Fault → ℕ → R) (good : R) (l m : List Look)
+    → first_told told good (l ++ m) ≡ first_told told (first_told told good m) l
+unfolding first_told
+first_append_told told good [] m = refl
+first_append_told told good (Ok t ∷ l) m = first_append_told told good l m
+first_append_told told good (Err e ∷ l) m = refl
