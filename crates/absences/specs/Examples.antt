@@ -15,7 +15,7 @@ use Rattle.absences.specs.Replied.{policy_reply_of}
 
 -- ---- how the table is written
 
--- A question of either kind: "H; 1,2,2 skipping" is `policy skipping H 3 1 2 2 1`, and "H, absent {0}, d 2, t 2" is `named H 3 2 2 1` and that
+-- A question of either kind: "H; 1,2,2 skipping" is `policy Skipping H 3 1 2 2 1`, and "H, absent {0}, d 2, t 2" is `named H 3 2 2 1` and that
 -- set. The edition stands behind t, and the allowance comes last.
 pub data Question : Type 0 where
   policy : Way → (table : Table) (P s d t ed allowance : ℕ) → Question

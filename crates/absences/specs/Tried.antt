@@ -23,7 +23,8 @@ row_at table P r = row_from table P r table.rows 0
 abbrev pub outweighers : Table → ℕ → ℕ → ℕ
 outweighers table P v = set_of table.rows (λ u. outweighsb table P u v)
 
--- "The search that skips tries only these; the full search tries all."
+-- "The search that skips tries only these; the full search tries all": `Skipping` and `Full`, the variants of the code's own `Way`
+
 -- Whether row v may be added to the absence F: always; or, so that it stays worth trying, if all that outweigh v are in F.
 unfoldable pub joins : Way → Table → ℕ → ℕ → ℕ → Bool
 joins Full table P F v = true
