@@ -3,13 +3,10 @@
 // have names: `B`, `listed`, `longest`, `permissions 31` for the codes from 0 to 30, `file weekend.book` for what that file has.
 ghost use Rattle.std.specs.Counts.{IsPrefixLen};
 
-use crate::draft::Draft;
-use crate::words::{byte_of, narrow, number, numbers, word};
+use crate::draft::{Draft, ROOM};
+use crate::words::{byte_of, narrow, next_word, number_at, numbers, word_at, words_from};
 use std::alloc::{AllocError, Global};
 use std::rt::Files;
-
-// One byte more than the longest book and some besides.
-pub const ROOM: usize = 1100;
 
 // No text of a file is longer.
 pub const TEXT: usize = 65536;
@@ -21,42 +18,42 @@ pub(crate) fn load(rt: &impl Files, name: &str, room: &mut [u8]) -> usize
     input::read_file(rt, name, room).unwrap_or(0)
 }
 
-// The same as text, of a file that has nothing else.
-pub(crate) fn text<'a>(rt: &impl Files, name: &str, room: &'a mut [u8; TEXT]) -> &'a str {
+// The same as a text.
+pub(crate) fn text<'a>(rt: &impl Files, name: &str, room: &'a mut [u8; TEXT]) -> &'a [u8] {
     let size = load(rt, name, room);
-    str::from_utf8(&room[..size]).unwrap_or("")
+    &room[..size]
 }
 
 fn book_of_file(rt: &impl Files, alloc: Global, name: &str) -> Result<Draft, AllocError> {
     let mut room = [0u8; ROOM];
-    let size = load(rt, name, &mut room);
-    let mut book = Draft::empty(alloc);
-    book.bytes.extend_from_slice(&room[..size])?;
-    Ok(book)
+    let length = load(rt, name, &mut room);
+    Ok(Draft {
+        bytes: Vec::from_array(alloc, room)?,
+        length,
+    })
 }
 
-// The book that the word with this index calls by a name, if it does.
+// The book that the word that stands here calls by a name, if it does.
 pub(crate) fn called(
     rt: &impl Files,
     alloc: Global,
-    line: &str,
-    at: usize,
+    text: &[u8],
 ) -> Result<Option<Draft>, AllocError> {
-    let named = word(line, at.wrapping_add(1));
-    Ok(Some(match word(line, at) {
+    let named = next_word(text);
+    Ok(Some(match word_at(text) {
         "B" => Draft::b(alloc)?,
         "listed" => Draft::listed(alloc)?,
         "longest" => Draft::longest(alloc)?,
-        "permissions" => Draft::permissions_to(alloc, byte_of(number(named)))?,
-        "file" => book_of_file(rt, alloc, named)?,
+        "permissions" => Draft::permissions_to(alloc, byte_of(number_at(named).0))?,
+        "file" => book_of_file(rt, alloc, word_at(named))?,
         _ => return Ok(None),
     }))
 }
 
-// The entry that the word with this index begins, put behind the others. A number begins none: it belongs to the word before it.
-fn add_entry(book: &mut Draft, line: &str, at: usize) -> Result<(), AllocError> {
-    let [first, second, third, fourth] = numbers::<4>(line, at.wrapping_add(1));
-    match word(line, at) {
+// The entry that stands here, put behind the others. A number is none: it belongs to the word before it.
+fn add_entry(book: &mut Draft, text: &[u8]) -> Result<(), AllocError> {
+    let [first, second, third, fourth] = numbers::<4>(text, 1);
+    match word_at(text) {
         "count" => book.count(byte_of(first)),
         "byte" | "edition" => book.byte(byte_of(first)),
         "code" => book.code((narrow(first) % 65536) as u16),
@@ -68,26 +65,21 @@ fn add_entry(book: &mut Draft, line: &str, at: usize) -> Result<(), AllocError> 
             byte_of(third),
             byte_of(fourth),
         ),
-        "cut" => {
-            book.bytes.truncate(first as usize);
-            Ok(())
-        }
+        "cut" => book.cut(first as usize),
         _ => Ok(()),
     }
 }
 
-// The book that the line writes from the word with this index on.
-pub(crate) fn book_at(
-    rt: &impl Files,
-    alloc: Global,
-    line: &str,
-    from: usize,
-) -> Result<Draft, AllocError> {
+// The book that stands from here to `=`.
+pub(crate) fn book_at(rt: &impl Files, alloc: Global, text: &[u8]) -> Result<Draft, AllocError> {
     let mut book = Draft::empty(alloc);
-    for (at, _) in line.split(' ').enumerate().skip(from) {
-        match called(rt, alloc, line, at)? {
+    for entry in words_from(text) {
+        if word_at(entry) == "=" {
+            break;
+        }
+        match called(rt, alloc, entry)? {
             Some(named) => book = named,
-            None => add_entry(&mut book, line, at)?,
+            None => add_entry(&mut book, entry)?,
         }
     }
     Ok(book)

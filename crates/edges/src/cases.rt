@@ -2,26 +2,34 @@
 // empty ones, are passed over. The allocator and the files are handles, lent to whoever needs them with the line that is read: one value of the three would
 // be no plainer.
 use crate::books::{TEXT, book_at, text};
-use crate::words::{around, first_word, number, word};
+use crate::words::{
+    behind, byte_at, line_at, lines_from, next_line, next_word, number_at, word_at,
+};
 use crate::{asked, explained, listed, pages, parts, reader, sheets};
 use questions::Way;
 use std::alloc::{AllocError, Global};
 use std::io;
 use std::rt::Files;
 
+// No file here has more groups.
+const GROUPS: usize = 100;
+
+// As many bytes of what came are told at most, and what has so many is nothing that is wanted: more may be cut off.
+pub const TOLD: usize = 512;
+
 // What cases come to: how many comparisons they make, how many of them differ, and what came where the first of those did.
 #[derive(Drop)]
 pub struct Outcome {
     compared: u64,
     differ: u64,
-    came: Option<String>,
+    came: Option<Vec<u8>>,
 }
 
 // What lines come to, and the first that differs.
 #[derive(Drop)]
 pub struct Tally<'a> {
     outcome: Outcome,
-    first: Option<&'a str>,
+    first: Option<&'a [u8]>,
 }
 
 impl Outcome {
@@ -34,7 +42,8 @@ impl Outcome {
     }
 
     // One comparison.
-    pub(crate) fn one(same: bool, came: String) -> Outcome {
+    pub(crate) fn one(same: bool, mut came: Vec<u8>) -> Outcome {
+        came.truncate(TOLD);
         Outcome {
             compared: 1,
             differ: u64::from(!same),
@@ -61,7 +70,7 @@ impl<'a> Tally<'a> {
     }
 
     // With what this line comes to.
-    pub(crate) fn add(&mut self, line: &'a str, outcome: Outcome) {
+    pub(crate) fn add(&mut self, line: &'a [u8], outcome: Outcome) {
         if self.first.is_none() && outcome.differ != 0 {
             self.first = Some(line);
         }
@@ -69,107 +78,142 @@ impl<'a> Tally<'a> {
     }
 
     // "NAME: N compared, M differ"; where some differ, the first of them and what came.
-    pub(crate) fn show(&self, rt: &impl Print, name: &str) -> io::Result<()> {
+    pub(crate) fn show(&self, rt: &impl Print, name: &[u8]) -> io::Result<()> {
         let Outcome {
             compared,
             differ,
             came,
         } = &self.outcome;
-        println!(rt; "{name}: {compared} compared, {differ} differ")?;
+        rt.write_all(name)?;
+        println!(rt; ": {compared} compared, {differ} differ")?;
         if let (Some(first), Some(came)) = (self.first, came) {
-            println!(rt; "  first: {first}\n  came: {came}")?;
+            print!(rt; "  first: ")?;
+            rt.write_all(first)?;
+            print!(rt; "\n  came: ")?;
+            rt.write_all(came)?;
+            println!(rt)?;
         }
         Ok(())
     }
 }
 
 // What came, for a case that makes one comparison and is of a book.
-fn came_of_book(
-    rt: &impl Files,
-    alloc: Global,
-    question: &str,
-    wanted: &str,
-) -> Result<String, AllocError> {
-    let book = book_at(rt, alloc, question, 1)?;
-    match word(question, 0) {
-        "book" => reader::read(alloc, &book.bytes),
-        "sheet" => sheets::sheet(alloc, &book.bytes),
-        "prints" => sheets::prints(rt, alloc, wanted, &book.bytes),
-        "short" => sheets::short(alloc, &book.bytes),
-        "again" => pages::again(alloc, &book.bytes),
+fn came_of_book(rt: &impl Files, alloc: Global, case: &[u8]) -> Result<String, AllocError> {
+    let book = book_at(rt, alloc, next_word(case))?;
+    match word_at(case) {
+        "book" => reader::read(alloc, book.book()),
+        "sheet" => sheets::sheet(alloc, book.book()),
+        "short" => sheets::short(alloc, book.book()),
+        "again" => pages::again(alloc, book.book()),
         _ => String::from_str(alloc, "no such question"),
     }
 }
 
 // The same of a part of a book.
-fn came_of_part(rt: &impl Files, alloc: Global, question: &str) -> Result<String, AllocError> {
-    let (part, book) = around(question, " of");
-    let book = book_at(rt, alloc, book, 0)?;
-    let (part, index) = first_word(part);
-    match part {
-        "row" => parts::row(alloc, &book.bytes, number(index)),
-        "accounts" => parts::accounts(alloc, &book.bytes),
-        "policies" => parts::policy_count(alloc, &book.bytes),
-        _ => parts::policy(alloc, &book.bytes, number(index)),
+fn came_of_part(rt: &impl Files, alloc: Global, case: &[u8]) -> Result<String, AllocError> {
+    let asked = next_word(case);
+    let (index, _) = number_at(asked);
+    match word_at(case) {
+        "accounts" => parts::accounts(alloc, book_at(rt, alloc, behind(case, "of"))?.book()),
+        "policies" => parts::policy_count(alloc, book_at(rt, alloc, behind(case, "of"))?.book()),
+        "row" => parts::row(
+            alloc,
+            book_at(rt, alloc, behind(asked, "of"))?.book(),
+            index,
+        ),
+        _ => parts::policy(
+            alloc,
+            book_at(rt, alloc, behind(asked, "of"))?.book(),
+            index,
+        ),
     }
 }
 
 // What came, for a case that makes one comparison.
-fn came(
-    rt: &impl Files,
-    alloc: Global,
-    question: &str,
-    wanted: &str,
-) -> Result<String, AllocError> {
-    let (asking, asked) = first_word(question);
-    match asking {
+fn came(rt: &impl Files, alloc: Global, case: &[u8]) -> Result<String, AllocError> {
+    let asked = next_word(case);
+    match word_at(case) {
         "skipping" => asked::policy(alloc, Way::Skipping, asked),
         "full" => asked::policy(alloc, Way::Full, asked),
         "named" => asked::named(alloc, asked),
         "why" => explained::why(alloc, asked),
-        "writes" => pages::writes(rt, alloc, question),
-        "row" | "accounts" | "policies" | "policy" => came_of_part(rt, alloc, question),
-        _ => came_of_book(rt, alloc, question, wanted),
+        "writes" => pages::writes(rt, alloc, asked),
+        "row" | "accounts" | "policies" | "policy" => came_of_part(rt, alloc, case),
+        _ => came_of_book(rt, alloc, case),
     }
 }
 
-fn compared(came: String, wanted: &str) -> Outcome {
-    Outcome::one(came.as_str() == wanted, came)
+// What came, held against the line that is wanted.
+pub(crate) fn compared(came: Vec<u8>, wanted: &[u8]) -> Outcome {
+    let same = came.len() < TOLD && came.as_slice() == line_at(wanted);
+    Outcome::one(same, came)
 }
 
-// What the case comes to.
-fn outcome_of(rt: &impl Files, alloc: Global, line: &str) -> Result<Outcome, AllocError> {
-    let (question, wanted) = around(line, " =");
-    let (asking, asked) = first_word(question);
-    match asking {
-        "cuts" => reader::cuts(alloc, asked),
-        "all" => listed::all(rt, alloc, asked),
-        "both" => {
-            let mut outcome = compared(asked::policy(alloc, Way::Skipping, asked)?, wanted);
-            outcome.add(compared(asked::policy(alloc, Way::Full, asked)?, wanted));
-            Ok(outcome)
+// By either search.
+fn both(alloc: Global, asked: &[u8], wanted: &[u8]) -> Result<Outcome, AllocError> {
+    let skipping = asked::policy(alloc, Way::Skipping, asked)?;
+    let full = asked::policy(alloc, Way::Full, asked)?;
+    let mut outcome = compared(skipping.into_bytes(), wanted);
+    outcome.add(compared(full.into_bytes(), wanted));
+    Ok(outcome)
+}
+
+// What the case that stands here comes to.
+fn outcome_of(rt: &impl Files, alloc: Global, case: &[u8]) -> Result<Outcome, AllocError> {
+    let asked = next_word(case);
+    let wanted = behind(case, "=");
+    match word_at(case) {
+        "cuts" => reader::cuts(alloc, word_at(asked)),
+        "all" => listed::all(rt, alloc, word_at(asked)),
+        "both" => both(alloc, asked, wanted),
+        "prints" => {
+            let book = book_at(rt, alloc, asked)?;
+            Ok(compared(sheets::prints(rt, alloc, wanted, book.book())?, wanted))
         }
-        _ => Ok(compared(came(rt, alloc, question, wanted)?, wanted)),
+        _ => Ok(compared(came(rt, alloc, case)?.into_bytes(), wanted)),
     }
 }
 
-// A group: its name, and its cases.
-fn show_group(rt: &(impl Files + Print), alloc: Global, group: &str) -> io::Result<()> {
-    let (name, cases) = group.split_once('\n').unwrap_or((group, ""));
+// Where the group ends that the lines from here on are of.
+fn group_end(text: &[u8]) -> &[u8] {
+    let mut end = text;
+    for line in lines_from(text) {
+        if byte_at(line) == b'#' {
+            return line;
+        }
+        end = next_line(line);
+    }
+    end
+}
+
+// The group whose name stands here, and where the next one does.
+fn show_group<'a>(
+    rt: &(impl Files + Print),
+    alloc: Global,
+    group: &'a [u8],
+) -> io::Result<&'a [u8]> {
+    let cases = next_line(group);
     let mut tally = Tally::none();
-    for line in cases.lines() {
-        if !line.is_empty() && !line.starts_with(' ') {
-            tally.add(line, outcome_of(rt, alloc, line)?);
+    for case in lines_from(cases) {
+        match byte_at(case) {
+            b'#' => break,
+            b' ' | b'\n' => {}
+            _ => tally.add(line_at(case), outcome_of(rt, alloc, case)?),
         }
     }
-    tally.show(rt, name)
+    tally.show(rt, line_at(next_word(group)))?;
+    Ok(group_end(cases))
 }
 
 // The groups of a file, behind what stands before the first.
 pub(crate) fn show_file(rt: &(impl Files + Print), alloc: Global, file: &str) -> io::Result<()> {
     let mut room = [0u8; TEXT];
-    for group in text(rt, file, &mut room).split("\n# ").skip(1) {
-        show_group(rt, alloc, group)?;
+    let mut group = group_end(text(rt, file, &mut room));
+    for _ in 0..GROUPS {
+        if group.is_empty() {
+            break;
+        }
+        group = show_group(rt, alloc, group)?;
     }
     Ok(())
 }

@@ -1,9 +1,14 @@
 // A roster book in the making, entry by entry, by the published layout: a count in one byte before each section, numbers little endian.
 use std::alloc::{AllocError, Global};
 
+// One byte more than the longest book and some besides: what does not fit in is left out.
+pub const ROOM: usize = 1100;
+
+// The first `length` bytes are the book. What a cut takes off stays behind it, and a longer one takes it again.
 #[derive(Drop)]
 pub struct Draft {
     pub bytes: Vec<u8>,
+    pub length: usize,
 }
 
 impl Draft {
@@ -11,11 +16,39 @@ impl Draft {
     pub(crate) fn empty(alloc: Global) -> Draft {
         Draft {
             bytes: Vec::new(alloc),
+            length: 0,
         }
     }
 
+    // The book, which is all of the bytes where there are not so many.
+    pub(crate) fn book(&self) -> &[u8] {
+        self.bytes.get(..self.length).unwrap_or(&self.bytes)
+    }
+
+    // These behind the others, as far as there is room, over what a cut has left there.
+    fn put(&mut self, bytes: &[u8]) -> Result<(), AllocError> {
+        for byte in bytes {
+            if self.length < ROOM {
+                match self.bytes.get_mut(self.length) {
+                    Some(place) => *place = *byte,
+                    None => self.bytes.push(*byte)?,
+                }
+                self.length += 1;
+            }
+        }
+        Ok(())
+    }
+
+    // The first bytes alone, zeros where there are not so many.
+    pub(crate) fn cut(&mut self, length: usize) -> Result<(), AllocError> {
+        let there = length.min(ROOM).max(self.bytes.len());
+        self.bytes.resize(there, 0)?;
+        self.length = length;
+        Ok(())
+    }
+
     pub(crate) fn byte(&mut self, value: u8) -> Result<(), AllocError> {
-        self.bytes.extend_from_slice(&[value])
+        self.put(&[value])
     }
 
     // The count that a section starts with.
@@ -25,11 +58,11 @@ impl Draft {
 
     // A permission's code.
     pub(crate) fn code(&mut self, code: u16) -> Result<(), AllocError> {
-        self.bytes.extend_from_slice(&code.to_le_bytes())
+        self.put(&code.to_le_bytes())
     }
 
     fn four(&mut self, n: u32) -> Result<(), AllocError> {
-        self.bytes.extend_from_slice(&n.to_le_bytes())
+        self.put(&n.to_le_bytes())
     }
 
     // A row.
@@ -59,7 +92,7 @@ impl Draft {
         size: u8,
     ) -> Result<(), AllocError> {
         self.four(task)?;
-        self.bytes.extend_from_slice(&[away, crews, size])
+        self.put(&[away, crews, size])
     }
 
     // The published book B.

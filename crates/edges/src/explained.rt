@@ -35,8 +35,8 @@ impl fmt::Display for Told {
 }
 
 // How many may be away plays no part here.
-pub(crate) fn why(alloc: Global, line: &str) -> Result<String, AllocError> {
-    let asked = Asked::read(line);
+pub(crate) fn why(alloc: Global, text: &[u8]) -> Result<String, AllocError> {
+    let asked = Asked::read(text);
     let explained = reasons::why(asked.accounts, asked.policy, asked.absent, asked.allowance);
     format!(in alloc; "{}", Told(explained))
 }

@@ -5,10 +5,10 @@
 // `holders` answers the set of places; questions answer verdict, units, the eight crews, the sites, which are 0 here, and the blocker. Sets are
 // masks. Lines that begin with `#`, and empty ones, are passed over.
 use crate::books::{TEXT, text};
-use crate::cases::{Outcome, Tally};
+use crate::cases::{Tally, compared};
 use crate::line::Masks;
 use crate::listed;
-use crate::words::{around, narrow, number, numbers, word};
+use crate::words::{behind, byte_at, line_at, lines_from, narrow, next_word, numbers, word_at};
 use live::Roster;
 use std::alloc::{AllocError, Global};
 use std::io;
@@ -30,11 +30,11 @@ fn holders(alloc: Global, roster: &Roster, permission: u64) -> Result<String, Al
     }
 }
 
-fn policy(alloc: Global, roster: Roster, line: &str) -> Result<String, AllocError> {
+fn policy(alloc: Global, roster: Roster, line: &[u8]) -> Result<String, AllocError> {
     let asked = listed::policy_at(line, 2);
     let [allowance] = numbers::<1>(line, 10);
     let reply = live::ask(
-        listed::way_of(word(line, 1)),
+        listed::way_of(word_at(next_word(line))),
         roster,
         asked,
         narrow(allowance),
@@ -43,7 +43,7 @@ fn policy(alloc: Global, roster: Roster, line: &str) -> Result<String, AllocErro
 }
 
 // Of the first edition.
-fn named(alloc: Global, roster: Roster, line: &str) -> Result<String, AllocError> {
+fn named(alloc: Global, roster: Roster, line: &[u8]) -> Result<String, AllocError> {
     let [absent, allowance] = numbers::<2>(line, 4);
     let reply = live::ask_named(
         roster,
@@ -55,11 +55,11 @@ fn named(alloc: Global, roster: Roster, line: &str) -> Result<String, AllocError
 }
 
 // The line, put to the roster.
-fn step(alloc: Global, roster: &mut Roster, line: &str) -> Result<String, AllocError> {
-    let [staff, permission] = numbers::<2>(line, 1);
-    let staff = narrow(staff);
-    let permission = narrow(permission);
-    match word(line, 0) {
+fn step(alloc: Global, roster: &mut Roster, line: &[u8]) -> Result<String, AllocError> {
+    let [first, second] = numbers::<2>(line, 1);
+    let staff = narrow(first);
+    let permission = narrow(second);
+    match word_at(line) {
         "hire" => answered(alloc, roster, roster.hire(staff)),
         "leave" => answered(alloc, roster, roster.leave(staff)),
         "grant" => answered(alloc, roster, roster.grant(staff, permission)),
@@ -68,7 +68,7 @@ fn step(alloc: Global, roster: &mut Roster, line: &str) -> Result<String, AllocE
             *roster = Roster::empty();
             String::from_str(alloc, "ok")
         }
-        "holders" => holders(alloc, roster, number(word(line, 1))),
+        "holders" => holders(alloc, roster, first),
         "rpolicy" => policy(alloc, *roster, line),
         "rnamed" => named(alloc, *roster, line),
         _ => String::from_str(alloc, "no such line"),
@@ -85,13 +85,13 @@ pub(crate) fn show_file(
     let mut room = [0u8; TEXT];
     let mut roster = Roster::empty();
     let mut tally = Tally::none();
-    for line in text(rt, file, &mut room).lines() {
-        if !line.is_empty() && !line.starts_with('#') {
-            let (called, wanted) = around(line, " ->");
-            let came = step(alloc, &mut roster, called)?;
-            let same = came.as_str() == wanted;
-            tally.add(line, Outcome::one(same, came));
+    for line in lines_from(text(rt, file, &mut room)) {
+        let byte = byte_at(line);
+        if byte != b'#' && byte != b'\n' {
+            let came = step(alloc, &mut roster, line)?;
+            let outcome = compared(came.into_bytes(), behind(line, "->"));
+            tally.add(line_at(line), outcome);
         }
     }
-    tally.show(rt, name)
+    tally.show(rt, name.as_bytes())
 }

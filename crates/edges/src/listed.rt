@@ -4,12 +4,15 @@
 //     policy skip|full P s d t EDITION 0 0 0 ALLOWANCE row...
 // Bit i of ABSENT is person i, and a row is HOLDINGS or HOLDINGS:PERSON; the zeros are not looked at. Lines that begin with `#` are passed over. An
 // answer is what explained.rt tells, or the verdict, the units, the eight crews, the sites, which are 0 here, and the blocker; sets are masks.
-use crate::asked::{nobody, with_rows};
+use crate::asked::{held_at, nobody, with_rows};
 use crate::books::{TEXT, text};
 use crate::cases::Outcome;
 use crate::explained::Told;
 use crate::line::Masks;
-use crate::words::{around, narrow, numbers, word};
+use crate::words::{
+    behind, byte_at, line_at, lines_from, narrow, next_word, numbers, word_at, word_behind,
+    words_from,
+};
 use accounts::Accounts;
 use questions::Way;
 use roster::Policy;
@@ -17,7 +20,7 @@ use std::alloc::{AllocError, Global};
 use std::rt::Files;
 
 // The policy P s d t EDITION that stands from this word on.
-pub(crate) fn policy_at(line: &str, from: usize) -> Policy {
+pub(crate) fn policy_at(line: &[u8], from: usize) -> Policy {
     let [task, away, crews, size, edition] = numbers::<5>(line, from);
     Policy {
         task: narrow(task),
@@ -30,7 +33,7 @@ pub(crate) fn policy_at(line: &str, from: usize) -> Policy {
 
 // The policy P d t that stands behind the first word, of this edition. How many may be away plays no part for a named absence: it is a number here that
 // is refused where it does.
-pub(crate) fn named_policy(line: &str, edition: u64) -> Policy {
+pub(crate) fn named_policy(line: &[u8], edition: u64) -> Policy {
     let [task, crews, size] = numbers::<3>(line, 1);
     Policy {
         task: narrow(task),
@@ -41,11 +44,14 @@ pub(crate) fn named_policy(line: &str, edition: u64) -> Policy {
     }
 }
 
-// The rows that stand from this word on.
-fn rows_from(line: &str, from: usize) -> Accounts {
+// The rows that stand from here to the arrow.
+fn rows_at(text: &[u8]) -> Accounts {
     let mut accounts = nobody();
-    for rows in line.split(' ').skip(from) {
-        accounts = with_rows(accounts, rows);
+    for row in words_from(text) {
+        if word_at(row) == "->" {
+            break;
+        }
+        accounts = with_rows(accounts, held_at(row, 1));
     }
     accounts
 }
@@ -59,21 +65,26 @@ pub(crate) fn way_of(word: &str) -> Way {
 }
 
 // What comes of a policy question.
-fn policy(alloc: Global, line: &str) -> Result<String, AllocError> {
-    let accounts = rows_from(line, 11);
+fn policy(alloc: Global, line: &[u8]) -> Result<String, AllocError> {
+    let accounts = rows_at(word_behind(line, 11));
     let asked = policy_at(line, 2);
     let [allowance] = numbers::<1>(line, 10);
-    let reply = questions::ask(way_of(word(line, 1)), accounts, asked, narrow(allowance));
+    let reply = questions::ask(
+        way_of(word_at(next_word(line))),
+        accounts,
+        asked,
+        narrow(allowance),
+    );
     format!(in alloc; "{}", Masks(reply))
 }
 
 // What comes of a question for a named absence, or of why it blocks.
-fn named(alloc: Global, line: &str) -> Result<String, AllocError> {
-    let accounts = rows_from(line, 9);
+fn named(alloc: Global, line: &[u8]) -> Result<String, AllocError> {
+    let accounts = rows_at(word_behind(line, 9));
     let [edition, absent, _, _, allowance] = numbers::<5>(line, 4);
     let asked = named_policy(line, edition);
     let allowance = narrow(allowance);
-    if word(line, 0) == "why" {
+    if word_at(line) == "why" {
         let explained = reasons::why(accounts, asked, absent, allowance);
         return format!(in alloc; "{}", Told(explained));
     }
@@ -82,8 +93,8 @@ fn named(alloc: Global, line: &str) -> Result<String, AllocError> {
 }
 
 // What comes of the question.
-fn answered(alloc: Global, line: &str) -> Result<String, AllocError> {
-    match word(line, 0) {
+fn answered(alloc: Global, line: &[u8]) -> Result<String, AllocError> {
+    match word_at(line) {
         "policy" => policy(alloc, line),
         "named" | "why" => named(alloc, line),
         _ => String::from_str(alloc, "no such question"),
@@ -91,19 +102,22 @@ fn answered(alloc: Global, line: &str) -> Result<String, AllocError> {
 }
 
 // The question of this line, held against its answer.
-fn compared(alloc: Global, line: &str) -> Result<Outcome, AllocError> {
-    let (question, wanted) = around(line, " ->");
-    let came = answered(alloc, question)?;
-    let same = came.as_str() == wanted;
-    Ok(Outcome::one(same, format!(in alloc; "{line} came {came}")?))
+fn compared(alloc: Global, line: &[u8]) -> Result<Outcome, AllocError> {
+    let came = answered(alloc, line)?;
+    let same = came.as_bytes() == line_at(behind(line, "->"));
+    let mut told = Vec::new(alloc);
+    for part in [line_at(line), b" came ", came.as_bytes()] {
+        told.extend_from_slice(part)?;
+    }
+    Ok(Outcome::one(same, told))
 }
 
 // Each question of the file with this name.
 pub(crate) fn all(rt: &impl Files, alloc: Global, name: &str) -> Result<Outcome, AllocError> {
     let mut room = [0u8; TEXT];
     let mut outcome = Outcome::none();
-    for line in text(rt, name, &mut room).lines() {
-        if !line.starts_with('#') {
+    for line in lines_from(text(rt, name, &mut room)) {
+        if byte_at(line) != b'#' {
             outcome.add(compared(alloc, line)?);
         }
     }

@@ -3,10 +3,12 @@
 // the form, `codes 33`, `rows 65` and `policies 33` say a count by itself, and `of B` or `of file weekend.book` takes the values of that
 // book. What comes is the length and the bytes, or the number and the place. `again BOOK` reads a book and writes it. Every byte that is not the book's
 // has to be as it was.
-use crate::books::{ROOM, called};
-use crate::draft::Draft;
+use crate::books::called;
+use crate::draft::{Draft, ROOM};
 use crate::reader::bad;
-use crate::words::{around, narrow, number, numbers, word};
+use crate::words::{
+    behind, narrow, next_word, number_at, numbers, word_at, word_behind, words_from,
+};
 use book::{Form, Row};
 use roster::Policy;
 use std::alloc::{AllocError, Global};
@@ -18,22 +20,27 @@ const BEFORE: u8 = 7;
 
 // ---- values
 
+// More than any text here has entries: no count is moved on past it.
+const ENTRIES: usize = 1000000;
+
 // An entry more behind those that are counted; it is counted where there is no place for it, too.
 fn add<T: Copy>(entries: &mut [T], count: &mut usize, entry: T) {
     if let Some(place) = entries.get_mut(*count) {
         *place = entry;
     }
-    *count = count.saturating_add(1);
+    if *count < ENTRIES {
+        *count += 1;
+    }
 }
 
 fn add_row(values: &mut Values, row: Row) {
     add(&mut values.rows, &mut values.row_count, row);
 }
 
-// The policy whose numbers stand from this word on: `3 1 2 2`, or `3 1 2 2 edition 2`.
-fn policy_at(line: &str, from: usize) -> Policy {
-    let [task, away, crews, size, _, edition] = numbers::<6>(line, from);
-    let has_edition = word(line, from.wrapping_add(4)) == "edition";
+// The policy that stands here: `policy 3 1 2 2`, or `policy 3 1 2 2 edition 2`.
+fn policy_at(text: &[u8]) -> Policy {
+    let [task, away, crews, size, _, edition] = numbers::<6>(text, 1);
+    let has_edition = word_at(word_behind(text, 5)) == "edition";
     Policy {
         task: narrow(task),
         away: narrow(away),
@@ -43,19 +50,17 @@ fn policy_at(line: &str, from: usize) -> Policy {
     }
 }
 
-// The values with the entry that the word with this index begins. A number begins none: it belongs to the word before it.
+// The values with the entry that stands here. A number is none: it belongs to the word before it.
 fn with_entry(
     rt: &impl Files,
     alloc: Global,
     mut values: Values,
-    line: &str,
-    at: usize,
+    text: &[u8],
 ) -> Result<Values, AllocError> {
-    let from = at.wrapping_add(1);
-    let [first, second, third] = numbers::<3>(line, from);
+    let [first, second, third] = numbers::<3>(text, 1);
     let staff = narrow(first);
     let second = narrow(second);
-    match word(line, at) {
+    match word_at(text) {
         "code" => add(
             &mut values.codes,
             &mut values.code_count,
@@ -80,11 +85,11 @@ fn with_entry(
         "policy" => add(
             &mut values.policies,
             &mut values.policy_count,
-            policy_at(line, from),
+            policy_at(text),
         ),
         "of" => {
-            let book = called(rt, alloc, line, from)?;
-            return Ok(values::of_book(&book.unwrap_or(Draft::empty(alloc)).bytes));
+            let book = called(rt, alloc, next_word(text))?;
+            return Ok(values::of_book(book.unwrap_or(Draft::empty(alloc)).book()));
         }
         "old" => values.form = Form::Old,
         "persons" => values.form = Form::Persons,
@@ -97,11 +102,14 @@ fn with_entry(
     Ok(values)
 }
 
-// The values that the line writes behind its first word.
-fn values_of(rt: &impl Files, alloc: Global, line: &str) -> Result<Values, AllocError> {
+// The values that stand from here to `room`.
+fn values_at(rt: &impl Files, alloc: Global, text: &[u8]) -> Result<Values, AllocError> {
     let mut values = Values::none();
-    for (at, _) in line.split(' ').enumerate().skip(1) {
-        values = with_entry(rt, alloc, values, line, at)?;
+    for entry in words_from(text) {
+        if word_at(entry) == "room" {
+            break;
+        }
+        values = with_entry(rt, alloc, values, entry)?;
     }
     Ok(values)
 }
@@ -147,11 +155,11 @@ fn told(
 }
 
 // Into so many bytes of the buffer, or into all of it where there are not so many.
-pub(crate) fn writes(rt: &impl Files, alloc: Global, line: &str) -> Result<String, AllocError> {
-    let (line, room) = around(line, " room");
+pub(crate) fn writes(rt: &impl Files, alloc: Global, text: &[u8]) -> Result<String, AllocError> {
+    let (room, _) = number_at(behind(text, "room"));
     let mut bytes = [BEFORE; ROOM];
-    let room = (number(room) as usize).min(ROOM);
-    let wrote = values::write(values_of(rt, alloc, line)?, &mut bytes[..room]);
+    let room = (room as usize).min(ROOM);
+    let wrote = values::write(values_at(rt, alloc, text)?, &mut bytes[..room]);
     told(alloc, wrote, &bytes)
 }
 

@@ -41,7 +41,7 @@ fn cut(alloc: Global, book: &[u8], place: usize) -> Result<Outcome, AllocError> 
     let length = book.len();
     Ok(Outcome::one(
         same,
-        format!(in alloc; "{came} for the first {length} bytes")?,
+        format!(in alloc; "{came} for the first {length} bytes")?.into_bytes(),
     ))
 }
 
@@ -62,7 +62,7 @@ fn cuts_of(
 // The book that is called so, cut at every byte.
 pub(crate) fn cuts(alloc: Global, name: &str) -> Result<Outcome, AllocError> {
     if name == "longest" {
-        return cuts_of(alloc, &Draft::longest(alloc)?.bytes, 65, 578);
+        return cuts_of(alloc, Draft::longest(alloc)?.book(), 65, 578);
     }
-    cuts_of(alloc, &Draft::b(alloc)?.bytes, 5, 38)
+    cuts_of(alloc, Draft::b(alloc)?.book(), 5, 38)
 }

@@ -1,11 +1,10 @@
 // Printed sheets, whole: `sheet BOOK`, with `|` for each newline; `prints BOOK`, which is held against the file that is wanted; `short BOOK`, into a
 // buffer that is one byte too short.
 use crate::books::{TEXT, load};
+use crate::cases::TOLD;
+use crate::words::{line_at, word_at};
 use std::alloc::{AllocError, Global};
 use std::rt::Files;
-
-// As many bytes of a sheet as are told at most.
-const TOLD: usize = 512;
 
 // The front of a text as a line.
 fn on_one_line(alloc: Global, text: &[u8]) -> Result<String, AllocError> {
@@ -38,19 +37,21 @@ fn printed(book: &[u8], wanted: &[u8]) -> bool {
     }
 }
 
-// The name of the file whose text is wanted, if the book prints just that; else the front of what it prints.
+// The line with the name of the file whose text is wanted, if the book prints just that; else the front of what it prints.
 pub(crate) fn prints(
     rt: &impl Files,
     alloc: Global,
-    wanted: &str,
+    wanted: &[u8],
     book: &[u8],
-) -> Result<String, AllocError> {
+) -> Result<Vec<u8>, AllocError> {
     let mut room = [0u8; TEXT];
-    let size = load(rt, wanted, &mut room);
-    if printed(book, &room[..size]) {
-        return String::from_str(alloc, wanted);
+    let size = load(rt, word_at(wanted), &mut room);
+    if !printed(book, &room[..size]) {
+        return Ok(sheet(alloc, book)?.into_bytes());
     }
-    sheet(alloc, book)
+    let mut line = Vec::new(alloc);
+    line.extend_from_slice(line_at(wanted))?;
+    Ok(line)
 }
 
 // What is told of a buffer that is one byte too short, and of its first and last byte, which were 7.
