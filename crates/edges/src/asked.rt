@@ -3,12 +3,11 @@
 // A table is the holdings of its rows, `3,1,2,3`, in which `64x1` stands for 64 rows that hold 1, and `-` for no row. `3:7` is a row of the person with
 // the number 7; a row without a person number is a person of its own. A policy is P;s,d,t of the first edition, or P;s,d,t;E; persons are joined by
 // commas. `with N` at the end is the allowance, which is ample without it.
-use crate::line::Replied;
+use crate::line::{Line, Replied};
 use crate::words::{behind, behind_bytes, byte_at, narrow, next_word, number_at};
 use accounts::Accounts;
 use questions::Way;
 use roster::Policy;
-use std::alloc::{AllocError, Global};
 
 // More than any need here.
 const AMPLE: u32 = 4294967295;
@@ -171,15 +170,15 @@ impl Asked {
     }
 }
 
-pub(crate) fn policy(alloc: Global, way: Way, text: &[u8]) -> Result<String, AllocError> {
+pub(crate) fn policy(way: Way, text: &[u8]) -> Line {
     let asked = Asked::read(text);
     let reply = questions::ask(way, asked.accounts, asked.policy, asked.allowance);
-    format!(in alloc; "{}", Replied(reply))
+    Line::of(Replied(reply))
 }
 
 // How many may be away plays no part here.
-pub(crate) fn named(alloc: Global, text: &[u8]) -> Result<String, AllocError> {
+pub(crate) fn named(text: &[u8]) -> Line {
     let asked = Asked::read(text);
     let reply = questions::ask_named(asked.accounts, asked.policy, asked.absent, asked.allowance);
-    format!(in alloc; "{}", Replied(reply))
+    Line::of(Replied(reply))
 }

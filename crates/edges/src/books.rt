@@ -5,7 +5,7 @@ ghost use Rattle.std.specs.Counts.{IsPrefixLen};
 
 use crate::draft::{Draft, ROOM};
 use crate::words::{byte_of, narrow, next_word, number_at, numbers, word_at, words_from};
-use std::alloc::{AllocError, Global};
+use arrayvec::ArrayVec;
 use std::rt::Files;
 
 // No text of a file is longer.
@@ -24,34 +24,30 @@ pub(crate) fn text<'a>(rt: &impl Files, name: &str, room: &'a mut [u8; TEXT]) ->
     &room[..size]
 }
 
-fn book_of_file(rt: &impl Files, alloc: Global, name: &str) -> Result<Draft, AllocError> {
+fn book_of_file(rt: &impl Files, name: &str) -> Draft {
     let mut room = [0u8; ROOM];
     let length = load(rt, name, &mut room);
-    Ok(Draft {
-        bytes: Vec::from_array(alloc, room)?,
+    Draft {
+        bytes: ArrayVec::from(room),
         length,
-    })
+    }
 }
 
 // The book that the word that stands here calls by a name, if it does.
-pub(crate) fn called(
-    rt: &impl Files,
-    alloc: Global,
-    text: &[u8],
-) -> Result<Option<Draft>, AllocError> {
+pub(crate) fn called(rt: &impl Files, text: &[u8]) -> Option<Draft> {
     let named = next_word(text);
-    Ok(Some(match word_at(text) {
-        "B" => Draft::b(alloc)?,
-        "listed" => Draft::listed(alloc)?,
-        "longest" => Draft::longest(alloc)?,
-        "permissions" => Draft::permissions_to(alloc, byte_of(number_at(named).0))?,
-        "file" => book_of_file(rt, alloc, word_at(named))?,
-        _ => return Ok(None),
-    }))
+    Some(match word_at(text) {
+        "B" => Draft::b(),
+        "listed" => Draft::listed(),
+        "longest" => Draft::longest(),
+        "permissions" => Draft::permissions_to(byte_of(number_at(named).0)),
+        "file" => book_of_file(rt, word_at(named)),
+        _ => return None,
+    })
 }
 
 // The entry that stands here, put behind the others. A number is none: it belongs to the word before it.
-fn add_entry(book: &mut Draft, text: &[u8]) -> Result<(), AllocError> {
+fn add_entry(book: &mut Draft, text: &[u8]) {
     let [first, second, third, fourth] = numbers::<4>(text, 1);
     match word_at(text) {
         "count" => book.count(byte_of(first)),
@@ -66,21 +62,21 @@ fn add_entry(book: &mut Draft, text: &[u8]) -> Result<(), AllocError> {
             byte_of(fourth),
         ),
         "cut" => book.cut(first as usize),
-        _ => Ok(()),
+        _ => {}
     }
 }
 
 // The book that stands from here to `=`.
-pub(crate) fn book_at(rt: &impl Files, alloc: Global, text: &[u8]) -> Result<Draft, AllocError> {
-    let mut book = Draft::empty(alloc);
+pub(crate) fn book_at(rt: &impl Files, text: &[u8]) -> Draft {
+    let mut book = Draft::empty();
     for entry in words_from(text) {
         if word_at(entry) == "=" {
             break;
         }
-        match called(rt, alloc, entry)? {
+        match called(rt, entry) {
             Some(named) => book = named,
-            None => add_entry(&mut book, entry)?,
+            None => add_entry(&mut book, entry),
         }
     }
-    Ok(book)
+    book
 }

@@ -1,28 +1,24 @@
 // The cases stand in files, in groups: a line `# NAME`, and below it a line for each case, `QUESTION = WANTED`. Lines that begin with a space, and
-// empty ones, are passed over. The allocator and the files are handles, lent to whoever needs them with the line that is read: one value of the three would
-// be no plainer.
+// empty ones, are passed over. The files are a handle, lent to whoever needs them with the line that is read: one value of the two would be no plainer.
 use crate::books::{TEXT, book_at, text};
+use crate::line::{Line, TOLD};
 use crate::words::{
     behind, byte_at, line_at, lines_from, next_line, next_word, number_at, word_at,
 };
 use crate::{asked, explained, listed, pages, parts, reader, sheets};
 use questions::Way;
-use std::alloc::{AllocError, Global};
 use std::io;
 use std::rt::Files;
 
 // No file here has more groups.
 const GROUPS: usize = 100;
 
-// As many bytes of what came are told at most, and what has so many is nothing that is wanted: more may be cut off.
-pub const TOLD: usize = 512;
-
 // What cases come to: how many comparisons they make, how many of them differ, and what came where the first of those did.
 #[derive(Drop)]
 pub struct Outcome {
     compared: u64,
     differ: u64,
-    came: Option<Vec<u8>>,
+    came: Option<Line>,
 }
 
 // What lines come to, and the first that differs.
@@ -42,8 +38,7 @@ impl Outcome {
     }
 
     // One comparison.
-    pub(crate) fn one(same: bool, mut came: Vec<u8>) -> Outcome {
-        came.truncate(TOLD);
+    pub(crate) fn one(same: bool, came: Line) -> Outcome {
         Outcome {
             compared: 1,
             differ: u64::from(!same),
@@ -90,7 +85,7 @@ impl<'a> Tally<'a> {
             print!(rt; "  first: ")?;
             rt.write_all(first)?;
             print!(rt; "\n  came: ")?;
-            rt.write_all(came)?;
+            rt.write_all(came.bytes())?;
             println!(rt)?;
         }
         Ok(())
@@ -98,79 +93,69 @@ impl<'a> Tally<'a> {
 }
 
 // What came, for a case that makes one comparison and is of a book.
-fn came_of_book(rt: &impl Files, alloc: Global, case: &[u8]) -> Result<String, AllocError> {
-    let book = book_at(rt, alloc, next_word(case))?;
+fn came_of_book(rt: &impl Files, case: &[u8]) -> Line {
+    let book = book_at(rt, next_word(case));
     match word_at(case) {
-        "book" => reader::read(alloc, book.book()),
-        "sheet" => sheets::sheet(alloc, book.book()),
-        "short" => sheets::short(alloc, book.book()),
-        "again" => pages::again(alloc, book.book()),
-        _ => String::from_str(alloc, "no such question"),
+        "book" => reader::read(book.book()),
+        "sheet" => sheets::sheet(book.book()),
+        "short" => sheets::short(book.book()),
+        "again" => pages::again(book.book()),
+        _ => Line::of("no such question"),
     }
 }
 
 // The same of a part of a book.
-fn came_of_part(rt: &impl Files, alloc: Global, case: &[u8]) -> Result<String, AllocError> {
+fn came_of_part(rt: &impl Files, case: &[u8]) -> Line {
     let asked = next_word(case);
     let (index, _) = number_at(asked);
     match word_at(case) {
-        "accounts" => parts::accounts(alloc, book_at(rt, alloc, behind(case, "of"))?.book()),
-        "policies" => parts::policy_count(alloc, book_at(rt, alloc, behind(case, "of"))?.book()),
-        "row" => parts::row(
-            alloc,
-            book_at(rt, alloc, behind(asked, "of"))?.book(),
-            index,
-        ),
-        _ => parts::policy(
-            alloc,
-            book_at(rt, alloc, behind(asked, "of"))?.book(),
-            index,
-        ),
+        "accounts" => parts::accounts(book_at(rt, behind(case, "of")).book()),
+        "policies" => parts::policy_count(book_at(rt, behind(case, "of")).book()),
+        "row" => parts::row(book_at(rt, behind(asked, "of")).book(), index),
+        _ => parts::policy(book_at(rt, behind(asked, "of")).book(), index),
     }
 }
 
 // What came, for a case that makes one comparison.
-fn came(rt: &impl Files, alloc: Global, case: &[u8]) -> Result<String, AllocError> {
+fn came(rt: &impl Files, case: &[u8]) -> Line {
     let asked = next_word(case);
     match word_at(case) {
-        "skipping" => asked::policy(alloc, Way::Skipping, asked),
-        "full" => asked::policy(alloc, Way::Full, asked),
-        "named" => asked::named(alloc, asked),
-        "why" => explained::why(alloc, asked),
-        "writes" => pages::writes(rt, alloc, asked),
-        "row" | "accounts" | "policies" | "policy" => came_of_part(rt, alloc, case),
-        _ => came_of_book(rt, alloc, case),
+        "skipping" => asked::policy(Way::Skipping, asked),
+        "full" => asked::policy(Way::Full, asked),
+        "named" => asked::named(asked),
+        "why" => explained::why(asked),
+        "writes" => pages::writes(rt, asked),
+        "row" | "accounts" | "policies" | "policy" => came_of_part(rt, case),
+        _ => came_of_book(rt, case),
     }
 }
 
 // What came, held against the line that is wanted.
-pub(crate) fn compared(came: Vec<u8>, wanted: &[u8]) -> Outcome {
-    let same = came.len() < TOLD && came.as_slice() == line_at(wanted);
+pub(crate) fn compared(came: Line, wanted: &[u8]) -> Outcome {
+    let same = came.bytes().len() < TOLD && came.bytes() == line_at(wanted);
     Outcome::one(same, came)
 }
 
 // By either search.
-fn both(alloc: Global, asked: &[u8], wanted: &[u8]) -> Result<Outcome, AllocError> {
-    let skipping = asked::policy(alloc, Way::Skipping, asked)?;
-    let full = asked::policy(alloc, Way::Full, asked)?;
-    let mut outcome = compared(skipping.into_bytes(), wanted);
-    outcome.add(compared(full.into_bytes(), wanted));
-    Ok(outcome)
+fn both(asked: &[u8], wanted: &[u8]) -> Outcome {
+    let mut outcome = compared(asked::policy(Way::Skipping, asked), wanted);
+    outcome.add(compared(asked::policy(Way::Full, asked), wanted));
+    outcome
 }
 
 // What the case that stands here comes to.
-fn outcome_of(rt: &impl Files, alloc: Global, case: &[u8]) -> Result<Outcome, AllocError> {
+fn outcome_of(rt: &impl Files, case: &[u8]) -> Outcome {
     let asked = next_word(case);
     let wanted = behind(case, "=");
     match word_at(case) {
-        "cuts" => reader::cuts(alloc, word_at(asked)),
-        "all" => listed::all(rt, alloc, word_at(asked)),
-        "both" => both(alloc, asked, wanted),
+        "cuts" => reader::cuts(word_at(asked)),
+        "all" => listed::all(rt, word_at(asked)),
+        "both" => both(asked, wanted),
         "prints" => {
-            let book = book_at(rt, alloc, asked)?;
-            Ok(compared(sheets::prints(rt, alloc, wanted, book.book())?, wanted))
+            let book = book_at(rt, asked);
+            compared(sheets::prints(rt, wanted, book.book()), wanted)
         }
-        _ => Ok(compared(came(rt, alloc, case)?.into_bytes(), wanted)),
+        _ => compared(came(rt, case), wanted),
     }
 }
 
@@ -187,18 +172,14 @@ fn group_end(text: &[u8]) -> &[u8] {
 }
 
 // The group whose name stands here, and where the next one does.
-fn show_group<'a>(
-    rt: &(impl Files + Print),
-    alloc: Global,
-    group: &'a [u8],
-) -> io::Result<&'a [u8]> {
+fn show_group<'a>(rt: &(impl Files + Print), group: &'a [u8]) -> io::Result<&'a [u8]> {
     let cases = next_line(group);
     let mut tally = Tally::none();
     for case in lines_from(cases) {
         match byte_at(case) {
             b'#' => break,
             b' ' | b'\n' => {}
-            _ => tally.add(line_at(case), outcome_of(rt, alloc, case)?),
+            _ => tally.add(line_at(case), outcome_of(rt, case)),
         }
     }
     tally.show(rt, line_at(next_word(group)))?;
@@ -206,14 +187,14 @@ fn show_group<'a>(
 }
 
 // The groups of a file, behind what stands before the first.
-pub(crate) fn show_file(rt: &(impl Files + Print), alloc: Global, file: &str) -> io::Result<()> {
+pub(crate) fn show_file(rt: &(impl Files + Print), file: &str) -> io::Result<()> {
     let mut room = [0u8; TEXT];
     let mut group = group_end(text(rt, file, &mut room));
     for _ in 0..GROUPS {
         if group.is_empty() {
             break;
         }
-        group = show_group(rt, alloc, group)?;
+        group = show_group(rt, group)?;
     }
     Ok(())
 }

@@ -1,8 +1,8 @@
 // Why a named absence blocks, as cases ask it: `why TABLE POLICY absent PERSONS`, written as the other questions are. An answer is the reason, 1, 2
 // or 3, or `nothing`, `undecided` or `refused:N`; the permission of reason 1 as bit number, else `-`; and the units.
 use crate::asked::Asked;
+use crate::line::Line;
 use reasons::{Explained, Explanation};
-use std::alloc::{AllocError, Global};
 use std::fmt;
 
 // The reason, or why there is none.
@@ -35,8 +35,8 @@ impl fmt::Display for Told {
 }
 
 // How many may be away plays no part here.
-pub(crate) fn why(alloc: Global, text: &[u8]) -> Result<String, AllocError> {
+pub(crate) fn why(text: &[u8]) -> Line {
     let asked = Asked::read(text);
     let explained = reasons::why(asked.accounts, asked.policy, asked.absent, asked.allowance);
-    format!(in alloc; "{}", Told(explained))
+    Line::of(Told(explained))
 }

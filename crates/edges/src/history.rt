@@ -6,31 +6,30 @@
 // masks. Lines that begin with `#`, and empty ones, are passed over.
 use crate::books::{TEXT, text};
 use crate::cases::{Tally, compared};
-use crate::line::Masks;
+use crate::line::{Line, Masks};
 use crate::listed;
 use crate::words::{behind, byte_at, line_at, lines_from, narrow, next_word, numbers, word_at};
 use live::Roster;
-use std::alloc::{AllocError, Global};
 use std::io;
 use std::rt::Files;
 
 // What a call answers, and the roster that it leaves.
-fn answered(alloc: Global, roster: &mut Roster, told: live::Told) -> Result<String, AllocError> {
+fn answered(roster: &mut Roster, told: live::Told) -> Line {
     *roster = told.roster;
     match told.outcome {
-        Ok(place) => format!(in alloc; "ok {place}"),
-        Err(objection) => format!(in alloc; "refused:{}", objection.number()),
+        Ok(place) => Line::of(format_args!("ok {place}")),
+        Err(objection) => Line::of(format_args!("refused:{}", objection.number())),
     }
 }
 
-fn holders(alloc: Global, roster: &Roster, permission: u64) -> Result<String, AllocError> {
+fn holders(roster: &Roster, permission: u64) -> Line {
     match roster.holders.get(permission as usize) {
-        Some(holders) => format!(in alloc; "{holders}"),
-        None => String::from_str(alloc, "no such permission"),
+        Some(holders) => Line::of(holders),
+        None => Line::of("no such permission"),
     }
 }
 
-fn policy(alloc: Global, roster: Roster, line: &[u8]) -> Result<String, AllocError> {
+fn policy(roster: Roster, line: &[u8]) -> Line {
     let asked = listed::policy_at(line, 2);
     let [allowance] = numbers::<1>(line, 10);
     let reply = live::ask(
@@ -39,11 +38,11 @@ fn policy(alloc: Global, roster: Roster, line: &[u8]) -> Result<String, AllocErr
         asked,
         narrow(allowance),
     );
-    format!(in alloc; "{}", Masks(reply))
+    Line::of(Masks(reply))
 }
 
 // Of the first edition.
-fn named(alloc: Global, roster: Roster, line: &[u8]) -> Result<String, AllocError> {
+fn named(roster: Roster, line: &[u8]) -> Line {
     let [absent, allowance] = numbers::<2>(line, 4);
     let reply = live::ask_named(
         roster,
@@ -51,45 +50,40 @@ fn named(alloc: Global, roster: Roster, line: &[u8]) -> Result<String, AllocErro
         absent,
         narrow(allowance),
     );
-    format!(in alloc; "{}", Masks(reply))
+    Line::of(Masks(reply))
 }
 
 // The line, put to the roster.
-fn step(alloc: Global, roster: &mut Roster, line: &[u8]) -> Result<String, AllocError> {
+fn step(roster: &mut Roster, line: &[u8]) -> Line {
     let [first, second] = numbers::<2>(line, 1);
     let staff = narrow(first);
     let permission = narrow(second);
     match word_at(line) {
-        "hire" => answered(alloc, roster, roster.hire(staff)),
-        "leave" => answered(alloc, roster, roster.leave(staff)),
-        "grant" => answered(alloc, roster, roster.grant(staff, permission)),
-        "revoke" => answered(alloc, roster, roster.revoke(staff, permission)),
+        "hire" => answered(roster, roster.hire(staff)),
+        "leave" => answered(roster, roster.leave(staff)),
+        "grant" => answered(roster, roster.grant(staff, permission)),
+        "revoke" => answered(roster, roster.revoke(staff, permission)),
         "roster" => {
             *roster = Roster::empty();
-            String::from_str(alloc, "ok")
+            Line::of("ok")
         }
-        "holders" => holders(alloc, roster, first),
-        "rpolicy" => policy(alloc, *roster, line),
-        "rnamed" => named(alloc, *roster, line),
-        _ => String::from_str(alloc, "no such line"),
+        "holders" => holders(roster, first),
+        "rpolicy" => policy(*roster, line),
+        "rnamed" => named(*roster, line),
+        _ => Line::of("no such line"),
     }
 }
 
 // The lines of a file.
-pub(crate) fn show_file(
-    rt: &(impl Files + Print),
-    alloc: Global,
-    name: &str,
-    file: &str,
-) -> io::Result<()> {
+pub(crate) fn show_file(rt: &(impl Files + Print), name: &str, file: &str) -> io::Result<()> {
     let mut room = [0u8; TEXT];
     let mut roster = Roster::empty();
     let mut tally = Tally::none();
     for line in lines_from(text(rt, file, &mut room)) {
         let byte = byte_at(line);
         if byte != b'#' && byte != b'\n' {
-            let came = step(alloc, &mut roster, line)?;
-            let outcome = compared(came.into_bytes(), behind(line, "->"));
+            let came = step(&mut roster, line);
+            let outcome = compared(came, behind(line, "->"));
             tally.add(line_at(line), outcome);
         }
     }

@@ -1,6 +1,55 @@
 // What came, as text: it is held against what was wanted.
+use arrayvec::ArrayVec;
 use roster::{Reply, Verdict};
 use std::fmt;
+
+// As many bytes of what came are told at most, and what has so many is nothing that is wanted: more may be cut off.
+pub const TOLD: usize = 512;
+
+// What came, or what is told of it: as much as there is room for. It is bytes, as the line of a file, which need not be text, is told with it.
+#[derive(Drop)]
+pub struct Line {
+    bytes: ArrayVec<u8, TOLD>,
+}
+
+impl Line {
+    // Nothing yet.
+    pub(crate) fn empty() -> Line {
+        Line {
+            bytes: ArrayVec::new(),
+        }
+    }
+
+    // What the value prints.
+    pub(crate) fn of<D: fmt::Display + Drop>(value: D) -> Line {
+        let mut line = Line::empty();
+        line.write_fmt(value);
+        line
+    }
+
+    // What `write!` calls: no text here fails to be printed, and what there is no room for is left out.
+    pub(crate) fn write_fmt<D: fmt::Display + Drop>(&mut self, value: D) {
+        let _ = fmt::Write::write(self, value);
+    }
+
+    // The bytes, as many as there is room for, behind the others.
+    pub(crate) fn put(&mut self, bytes: &[u8]) {
+        let count = self.bytes.remaining_capacity().min(bytes.len());
+        let _fits = self.bytes.try_extend_from_slice(&bytes[..count]);
+    }
+
+    pub(crate) fn bytes(&self) -> &[u8] {
+        self.bytes.as_slice()
+    }
+}
+
+// An `ArrayString` takes a piece whole or not at all: here its front is taken.
+impl fmt::Write for Line {
+    fn write_str(&mut self, s: &str) -> fmt::Result {
+        self.put(s.as_bytes());
+        Ok(())
+    }
+}
 
 // A set: its rows, joined by commas; `-` for the empty one.
 #[derive(Clone, Copy)]

@@ -8,7 +8,7 @@ use crate::asked::{held_at, nobody, with_rows};
 use crate::books::{TEXT, text};
 use crate::cases::Outcome;
 use crate::explained::Told;
-use crate::line::Masks;
+use crate::line::{Line, Masks};
 use crate::words::{
     behind, byte_at, line_at, lines_from, narrow, next_word, numbers, word_at, word_behind,
     words_from,
@@ -16,7 +16,6 @@ use crate::words::{
 use accounts::Accounts;
 use questions::Way;
 use roster::Policy;
-use std::alloc::{AllocError, Global};
 use std::rt::Files;
 
 // The policy P s d t EDITION that stands from this word on.
@@ -65,7 +64,7 @@ pub(crate) fn way_of(word: &str) -> Way {
 }
 
 // What comes of a policy question.
-fn policy(alloc: Global, line: &[u8]) -> Result<String, AllocError> {
+fn policy(line: &[u8]) -> Line {
     let accounts = rows_at(word_behind(line, 11));
     let asked = policy_at(line, 2);
     let [allowance] = numbers::<1>(line, 10);
@@ -75,51 +74,51 @@ fn policy(alloc: Global, line: &[u8]) -> Result<String, AllocError> {
         asked,
         narrow(allowance),
     );
-    format!(in alloc; "{}", Masks(reply))
+    Line::of(Masks(reply))
 }
 
 // What comes of a question for a named absence, or of why it blocks.
-fn named(alloc: Global, line: &[u8]) -> Result<String, AllocError> {
+fn named(line: &[u8]) -> Line {
     let accounts = rows_at(word_behind(line, 9));
     let [edition, absent, _, _, allowance] = numbers::<5>(line, 4);
     let asked = named_policy(line, edition);
     let allowance = narrow(allowance);
     if word_at(line) == "why" {
         let explained = reasons::why(accounts, asked, absent, allowance);
-        return format!(in alloc; "{}", Told(explained));
+        return Line::of(Told(explained));
     }
     let reply = questions::ask_named(accounts, asked, absent, allowance);
-    format!(in alloc; "{}", Masks(reply))
+    Line::of(Masks(reply))
 }
 
 // What comes of the question.
-fn answered(alloc: Global, line: &[u8]) -> Result<String, AllocError> {
+fn answered(line: &[u8]) -> Line {
     match word_at(line) {
-        "policy" => policy(alloc, line),
-        "named" | "why" => named(alloc, line),
-        _ => String::from_str(alloc, "no such question"),
+        "policy" => policy(line),
+        "named" | "why" => named(line),
+        _ => Line::of("no such question"),
     }
 }
 
 // The question of this line, held against its answer.
-fn compared(alloc: Global, line: &[u8]) -> Result<Outcome, AllocError> {
-    let came = answered(alloc, line)?;
-    let same = came.as_bytes() == line_at(behind(line, "->"));
-    let mut told = Vec::new(alloc);
-    for part in [line_at(line), b" came ", came.as_bytes()] {
-        told.extend_from_slice(part)?;
+fn compared(line: &[u8]) -> Outcome {
+    let came = answered(line);
+    let same = came.bytes() == line_at(behind(line, "->"));
+    let mut told = Line::empty();
+    for part in [line_at(line), b" came ", came.bytes()] {
+        told.put(part);
     }
-    Ok(Outcome::one(same, told))
+    Outcome::one(same, told)
 }
 
 // Each question of the file with this name.
-pub(crate) fn all(rt: &impl Files, alloc: Global, name: &str) -> Result<Outcome, AllocError> {
+pub(crate) fn all(rt: &impl Files, name: &str) -> Outcome {
     let mut room = [0u8; TEXT];
     let mut outcome = Outcome::none();
     for line in lines_from(text(rt, name, &mut room)) {
         if byte_at(line) != b'#' {
-            outcome.add(compared(alloc, line)?);
+            outcome.add(compared(line));
         }
     }
-    Ok(outcome)
+    outcome
 }

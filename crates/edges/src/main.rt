@@ -31,12 +31,11 @@ const CASES: [&str; 7] = [
 ];
 
 fn main(rt: HostRuntime) -> io::Result<()> {
-    let alloc = rt.alloc();
     for file in CASES {
-        cases::show_file(&rt, alloc, file)?;
+        cases::show_file(&rt, file)?;
     }
-    history::show_file(&rt, alloc, "a live roster, one history", "roster-07.txt")?;
-    history::show_file(&rt, alloc, "a live roster at its edges", "roster.history")?;
-    cases::show_file(&rt, alloc, "planted.cases")?;
-    history::show_file(&rt, alloc, "planted lines of a history", "planted.history")
+    history::show_file(&rt, "a live roster, one history", "roster-07.txt")?;
+    history::show_file(&rt, "a live roster at its edges", "roster.history")?;
+    cases::show_file(&rt, "planted.cases")?;
+    history::show_file(&rt, "planted lines of a history", "planted.history")
 }

@@ -5,13 +5,13 @@
 // has to be as it was.
 use crate::books::called;
 use crate::draft::{Draft, ROOM};
+use crate::line::Line;
 use crate::reader::bad;
 use crate::words::{
     behind, narrow, next_word, number_at, numbers, word_at, word_behind, words_from,
 };
 use book::{Form, Row};
 use roster::Policy;
-use std::alloc::{AllocError, Global};
 use std::rt::Files;
 use values::{NotWritten, Values};
 
@@ -33,7 +33,12 @@ fn add<T: Copy>(entries: &mut [T], count: &mut usize, entry: T) {
     }
 }
 
-fn add_row(values: &mut Values, row: Row) {
+fn add_row(values: &mut Values, staff: u32, person: u32, holdings: u32) {
+    let row = Row {
+        staff,
+        person,
+        holdings,
+    };
     add(&mut values.rows, &mut values.row_count, row);
 }
 
@@ -51,12 +56,7 @@ fn policy_at(text: &[u8]) -> Policy {
 }
 
 // The values with the entry that stands here. A number is none: it belongs to the word before it.
-fn with_entry(
-    rt: &impl Files,
-    alloc: Global,
-    mut values: Values,
-    text: &[u8],
-) -> Result<Values, AllocError> {
+fn with_entry(rt: &impl Files, mut values: Values, text: &[u8]) -> Values {
     let [first, second, third] = numbers::<3>(text, 1);
     let staff = narrow(first);
     let second = narrow(second);
@@ -66,30 +66,16 @@ fn with_entry(
             &mut values.code_count,
             (first % 65536) as u16,
         ),
-        "row" => add_row(
-            &mut values,
-            Row {
-                staff,
-                person: staff,
-                holdings: second,
-            },
-        ),
-        "account" => add_row(
-            &mut values,
-            Row {
-                staff,
-                person: second,
-                holdings: narrow(third),
-            },
-        ),
+        "row" => add_row(&mut values, staff, staff, second),
+        "account" => add_row(&mut values, staff, second, narrow(third)),
         "policy" => add(
             &mut values.policies,
             &mut values.policy_count,
             policy_at(text),
         ),
         "of" => {
-            let book = called(rt, alloc, next_word(text))?;
-            return Ok(values::of_book(book.unwrap_or(Draft::empty(alloc)).book()));
+            let book = called(rt, next_word(text));
+            return values::of_book(book.unwrap_or(Draft::empty()).book());
         }
         "old" => values.form = Form::Old,
         "persons" => values.form = Form::Persons,
@@ -99,19 +85,19 @@ fn with_entry(
         "policies" => values.policy_count = first as usize,
         _ => {}
     }
-    Ok(values)
+    values
 }
 
 // The values that stand from here to `room`.
-fn values_at(rt: &impl Files, alloc: Global, text: &[u8]) -> Result<Values, AllocError> {
+fn values_at(rt: &impl Files, text: &[u8]) -> Values {
     let mut values = Values::none();
     for entry in words_from(text) {
         if word_at(entry) == "room" {
             break;
         }
-        values = with_entry(rt, alloc, values, entry)?;
+        values = with_entry(rt, values, entry);
     }
-    Ok(values)
+    values
 }
 
 // ---- what is written
@@ -124,43 +110,38 @@ fn touched(bytes: &[u8; ROOM], from: usize) -> Option<usize> {
 }
 
 // What was touched from here on, which should be nothing, behind the line.
-fn with_touched(line: &mut String, bytes: &[u8; ROOM], from: usize) -> Result<(), AllocError> {
-    match touched(bytes, from) {
-        Some(place) => write!(line, " touched {place}"),
-        None => Ok(()),
+fn with_touched(line: &mut Line, bytes: &[u8; ROOM], from: usize) {
+    if let Some(place) = touched(bytes, from) {
+        write!(line, " touched {place}");
     }
 }
 
 // What came of writing, and what the buffer then has.
-fn told(
-    alloc: Global,
-    wrote: Result<usize, NotWritten>,
-    bytes: &[u8; ROOM],
-) -> Result<String, AllocError> {
+fn told(wrote: Result<usize, NotWritten>, bytes: &[u8; ROOM]) -> Line {
     match wrote {
         Ok(length) => {
-            let mut line = format!(in alloc; "written {length}")?;
+            let mut line = Line::of(format_args!("written {length}"));
             for byte in bytes.iter().take(length) {
-                write!(line, " {byte}")?;
+                write!(line, " {byte}");
             }
-            with_touched(&mut line, bytes, length)?;
-            Ok(line)
+            with_touched(&mut line, bytes, length);
+            line
         }
         Err(refused) => {
-            let mut line = bad(alloc, refused.why.number(), refused.place)?;
-            with_touched(&mut line, bytes, 0)?;
-            Ok(line)
+            let mut line = bad(refused.why.number(), refused.place);
+            with_touched(&mut line, bytes, 0);
+            line
         }
     }
 }
 
 // Into so many bytes of the buffer, or into all of it where there are not so many.
-pub(crate) fn writes(rt: &impl Files, alloc: Global, text: &[u8]) -> Result<String, AllocError> {
+pub(crate) fn writes(rt: &impl Files, text: &[u8]) -> Line {
     let (room, _) = number_at(behind(text, "room"));
     let mut bytes = [BEFORE; ROOM];
     let room = (room as usize).min(ROOM);
-    let wrote = values::write(values_at(rt, alloc, text)?, &mut bytes[..room]);
-    told(alloc, wrote, &bytes)
+    let wrote = values::write(values_at(rt, text), &mut bytes[..room]);
+    told(wrote, &bytes)
 }
 
 // Whether this is the book, with nothing touched behind it.
@@ -169,11 +150,11 @@ fn is_book(book: &[u8], length: usize, bytes: &[u8; ROOM]) -> bool {
 }
 
 // A book read and written again, where there is room for more: its length if the bytes are the same, and else what came.
-pub(crate) fn again(alloc: Global, book: &[u8]) -> Result<String, AllocError> {
+pub(crate) fn again(book: &[u8]) -> Line {
     let mut bytes = [BEFORE; ROOM];
     let wrote = values::write(values::of_book(book), &mut bytes);
     match wrote {
-        Ok(length) if is_book(book, length, &bytes) => format!(in alloc; "same {length}"),
-        _ => told(alloc, wrote, &bytes),
+        Ok(length) if is_book(book, length, &bytes) => Line::of(format_args!("same {length}")),
+        _ => told(wrote, &bytes),
     }
 }

@@ -2,20 +2,20 @@
 // and place; and `cuts B` and `cuts longest`, the two books cut at every byte.
 use crate::cases::Outcome;
 use crate::draft::Draft;
-use std::alloc::{AllocError, Global};
+use crate::line::Line;
 
-pub(crate) fn read(alloc: Global, book: &[u8]) -> Result<String, AllocError> {
+pub(crate) fn read(book: &[u8]) -> Line {
     match book::read(book) {
         Ok(starts) => {
             let (permissions, rows, policies) = (starts.permissions, starts.rows, starts.policies);
-            format!(in alloc; "good {permissions} {rows} {policies}")
+            Line::of(format_args!("good {permissions} {rows} {policies}"))
         }
-        Err(refused) => bad(alloc, refused.fault.number(), refused.place),
+        Err(refused) => bad(refused.fault.number(), refused.place),
     }
 }
 
-pub(crate) fn bad(alloc: Global, number: u32, place: usize) -> Result<String, AllocError> {
-    format!(in alloc; "bad {number} {place}")
+pub(crate) fn bad(number: u32, place: usize) -> Line {
+    Line::of(format_args!("bad {number} {place}"))
 }
 
 // Where the count or the field starts that is not whole in an old book cut to this length. Its rows and its policies are counted at these places; codes
@@ -35,34 +35,27 @@ fn cut_place(rows: usize, policies: usize, length: usize) -> usize {
 }
 
 // One cut: 11 at this place.
-fn cut(alloc: Global, book: &[u8], place: usize) -> Result<Outcome, AllocError> {
-    let came = read(alloc, book)?;
-    let same = came.as_str() == bad(alloc, 11, place)?.as_str();
+fn cut(book: &[u8], place: usize) -> Outcome {
+    let mut came = read(book);
+    let same = came.bytes() == bad(11, place).bytes();
     let length = book.len();
-    Ok(Outcome::one(
-        same,
-        format!(in alloc; "{came} for the first {length} bytes")?.into_bytes(),
-    ))
+    write!(came, " for the first {length} bytes");
+    Outcome::one(same, came)
 }
 
 // A book cut at every byte, whose rows and policies are counted at these places: the lengths are what is counted, and no index.
-fn cuts_of(
-    alloc: Global,
-    book: &[u8],
-    rows: usize,
-    policies: usize,
-) -> Result<Outcome, AllocError> {
+fn cuts_of(book: &[u8], rows: usize, policies: usize) -> Outcome {
     let mut outcome = Outcome::none();
     for length in 0..book.len() {
-        outcome.add(cut(alloc, &book[..length], cut_place(rows, policies, length))?);
+        outcome.add(cut(&book[..length], cut_place(rows, policies, length)));
     }
-    Ok(outcome)
+    outcome
 }
 
 // The book that is called so, cut at every byte.
-pub(crate) fn cuts(alloc: Global, name: &str) -> Result<Outcome, AllocError> {
+pub(crate) fn cuts(name: &str) -> Outcome {
     if name == "longest" {
-        return cuts_of(alloc, Draft::longest(alloc)?.book(), 65, 578);
+        return cuts_of(Draft::longest().book(), 65, 578);
     }
-    cuts_of(alloc, Draft::b(alloc)?.book(), 5, 38)
+    cuts_of(Draft::b().book(), 5, 38)
 }
