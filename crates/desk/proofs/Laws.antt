@@ -1,4 +1,5 @@
 pub mod Books
+pub mod Untaken
 pub mod Back
 pub mod Least
 pub mod Order

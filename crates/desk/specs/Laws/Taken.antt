@@ -17,13 +17,9 @@ use Rattle.book.specs.Parts.{contents_of, accounts_in}
 use Rattle.book.specs.declared.Row.{Row}
 use Rattle.book.specs.declared.Starts.{Starts}
 use Rattle.values.specs.Values.{nobody, values_for, contents_by, values_of}
-use Rattle.desk.specs.Filled.{seated_by, seated, sharing, filled_if, filled_by, filled_from, roster_from}
+use Rattle.desk.specs.Filled.{seated_by, seated, sharing, filled_if, filled_by, filled_from}
 use Rattle.desk.specs.declared.NotTaken.TheVariants.{Shared, Refused}
-use Rattle.desk.specs.declared.NotTaken.{NotTaken}
 use Rattle.book.specs.declared.FaultAt.{FaultAt}
-use Rattle.live.specs.Changes.{empty}
-use Rattle.live.specs.declared.Roster.{Roster}
-use Rattle.std.specs.Result.{result_unwrap_or}
 
 -- ---- the three cases
 
@@ -39,14 +35,6 @@ by_sharing book s b e h = ap (filled_by book) e ∙ ap (λ (x : Bool). filled_if
 pub filled_shared : (book : List ℕ) (s : Starts) → read_of book ≡ Ok s → persons (accounts_in book) < (accounts_in book).rows
     → filled_from book ≡ Err Shared
 filled_shared book s e h = by_sharing book s true e (lt-ltb (persons (accounts_in book)) (accounts_in book).rows h)
-
--- of a book that is not taken the roster is empty
-pub roster_refused : (book : List ℕ) (fault : FaultAt) → read_of book ≡ Err fault → roster_from book ≡ empty
-roster_refused book fault e = ap (λ (r : Result Roster NotTaken). result_unwrap_or r empty) (filled_refused book fault e)
-
-pub roster_shared : (book : List ℕ) (s : Starts) → read_of book ≡ Ok s → persons (accounts_in book) < (accounts_in book).rows
-    → roster_from book ≡ empty
-roster_shared book s e h = ap (λ (r : Result Roster NotTaken). result_unwrap_or r empty) (filled_shared book s e h)
 
 pub filled_taken : (book : List ℕ) (s : Starts) → read_of book ≡ Ok s → (accounts_in book).rows ≤ persons (accounts_in book)
     → filled_from book ≡ Ok (seated (contents_of book).rows)
