@@ -219,7 +219,9 @@ impl Roster {
         if permission > 31 {
             return self.refusing(Objection::Permission);
         }
-        match self.place_of(number) {
+        // a copy is asked: what was borrowed is copied once more when it is handed on, on a refusal before this too
+        let seen = self;
+        match seen.place_of(number) {
             Some(place) => self
                 .turned(place, permission as usize, granting)
                 .done(place),
